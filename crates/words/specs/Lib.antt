@@ -1,0 +1,3 @@
+pub mod Sequence
+pub mod Word
+pub mod Block
