@@ -1,0 +1,4 @@
+pub mod Lists
+pub mod Xor
+pub mod Words
+pub mod Blocks

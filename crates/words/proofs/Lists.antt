@@ -1,0 +1,117 @@
+-- Laws of the lists that count up from 0, stated once and cited by every loop. Assumes nothing.
+use mathlib.Core.Path.{_≡_, refl, sym, ap, ap₂, _∙_, subst}
+use mathlib.Core.List.{List, [], _∷_, _++_, append-assoc, append-nil}
+use Prim.Native.Nat.{ℕ, zero, suc, _+_, _-_, _*_, _≤_, _<_}
+use native.Mathlib.Nat.{mul-suc, mul-zero}
+use native.Mathlib.Numerals.{add-one}
+use native.Mathlib.Omega.{arith}
+use native.Mathlib.Decide.{decLt}
+use lib.ListN.{length, getD, take, drop, set, length-append, length-drop, length-set, List·getD-append, List·getD-eq-default, drop-of-length-le}
+use lib.Seq.{drop-drop, getD-at, take-at, drop-at, take-all, ext-getD, drop-length, take-add, length-take-le, getD-take, take-suc-set}
+use borrow.Rule.Slice.PartMut.{putMid}
+use Rattle.words.specs.Sequence.{tab, cat, fold, times}
+
+pub length-tab : (f : ℕ → ℕ) (n : ℕ) → length (tab f n) ≡ n
+unfolding tab
+length-tab f zero = refl
+length-tab f (suc n) = length-append (tab f n) (f n ∷ []) ∙ add-one _ ∙ ap suc (length-tab f n)
+
+module _ (f : ℕ → ℕ) (n : ℕ) where
+  getD-last : (i : ℕ) → i ≡ n → getD (tab f n ++ (f n ∷ [])) i 0 ≡ f i
+  getD-last i e =
+      getD-at (tab f n) (f n) [] 0 i (length-tab f n ∙ sym e) ∙ ap f (sym e)
+
+pub getD-tab : (f : ℕ → ℕ) (n i : ℕ) → i < n → getD (tab f n) i 0 ≡ f i
+unfolding tab
+getD-tab f zero i h = absurd (omega arith)
+getD-tab f (suc n) i h = elim (decLt i n) [
+  | yes p ↦ List·getD-append (tab f n) (f n ∷ []) 0 i (subst (λ (k : ℕ). i < k) (sym (length-tab f n)) p) ∙ getD-tab f n i p
+  | no q ↦ getD-last f n i (omega arith)
+]
+
+-- past its end a list reads as zero
+pub getD-tab-past : (f : ℕ → ℕ) (n i : ℕ) → n ≤ i → getD (tab f n) i 0 ≡ 0
+getD-tab-past f n i h = List·getD-eq-default (tab f n) 0 (subst (λ (k : ℕ). k ≤ i) (sym (length-tab f n)) h)
+
+-- two tables are equal when their entries are
+pub tab-ext : (f g : ℕ → ℕ) (n : ℕ) → ((i : ℕ) → i < n → f i ≡ g i) → tab f n ≡ tab g n
+tab-ext f g n h =
+    ext-getD 0 (tab f n) (tab g n) (length-tab f n ∙ sym (length-tab g n))
+    (λ i p. let q : i < n = subst (λ (k : ℕ). i < k) (length-tab f n) p in getD-tab f n i q ∙ h i q ∙ sym (getD-tab g n i q))
+
+-- a list is the table of its own entries
+pub tab-getD : (s : List ℕ) (n : ℕ) → length s ≡ n → s ≡ tab (λ i. getD s i 0) n
+tab-getD s n e =
+    ext-getD 0 s (tab (λ i. getD s i 0) n) (e ∙ sym (length-tab (λ i. getD s i 0) n))
+    (λ i p. sym (getD-tab (λ i. getD s i 0) n i (subst (λ (k : ℕ). i < k) e p)))
+
+-- one more entry of a list that is filled from the front
+pub stored : (f : ℕ → ℕ) (i : ℕ) (xs : List ℕ) (v : ℕ) → i < length xs → take i xs ≡ tab f i → v ≡ f i → take (i + 1) (set xs i v) ≡ tab f (i + 1)
+unfolding tab
+stored f i xs v h e q = rw (add-one, take-suc-set xs i v h, e, q)
+
+-- all entries are in
+pub filled : (f : ℕ → ℕ) (n : ℕ) (xs : List ℕ) → length xs ≡ n → take n xs ≡ tab f n → xs ≡ tab f n
+filled f n xs h e = sym (take-all n xs (omega arith)) ∙ e
+
+pub length-cat : (f : ℕ → List ℕ) (w n : ℕ) → ((k : ℕ) → length (f k) ≡ w) → length (cat f n) ≡ w * n
+unfolding cat
+length-cat f w zero h = sym (mul-zero w)
+length-cat f w (suc n) h = rw (length-append, length-cat f w n h, h n, mul-suc)
+
+-- `&s[a..]` is the list from place a on
+pub tailPart : (a : ℕ) (s : List ℕ) → take (length s - a) (drop a s) ≡ drop a s
+tailPart a s = take-all (length s - a) (drop a s) (simp length-drop (omega arith))
+
+-- a part that came back with a new front of w bytes: one more piece is in
+pub appended : (f : ℕ → List ℕ) (w i : ℕ) (old xs ys : List ℕ) → ((k : ℕ) → length (f k) ≡ w) → w * i + w ≤ length old
+    → xs ≡ cat f i ++ drop (w * i) old → ys ≡ f i ++ drop w (take (length xs - w * i) (drop (w * i) xs))
+    → putMid (w * i) (length xs - w * i) xs ys ≡ cat f (i + 1) ++ drop (w * (i + 1)) old
+unfolding cat
+appended f w i old xs ys hw h e q =
+    let front : length (cat f i) ≡ w * i = length-cat f w i hw in
+    let back : drop (w * i) xs ≡ drop (w * i) old = ap (drop (w * i)) e ∙ drop-at (cat f i) (drop (w * i) old) (w * i) front in
+    let head : take (w * i) xs ≡ cat f i = ap (take (w * i)) e ∙ take-at (cat f i) (drop (w * i) old) (w * i) front in
+    let none : drop (length xs - w * i) (drop (w * i) xs) ≡ [] = drop-of-length-le (drop (w * i) xs) {i = length xs - w * i} (simp length-drop (omega arith)) in
+    rw (head, none, q, tailPart, back, drop-drop, append-nil, add-one, mul-suc)
+    (sym (append-assoc (cat f i) (f i) (drop (w * i + w) old)))
+
+-- the part from the next block on
+pub nextPart : (w i : ℕ) (t s : List ℕ) → t ≡ drop (w * i) s → take (length t - w) (drop w t) ≡ drop (w * (i + 1)) s
+nextPart w i t s e = tailPart w t ∙ rw (e, drop-drop, add-one, mul-suc)
+
+pub folded : (f : ℕ → List ℕ → List ℕ) (z : List ℕ) (i : ℕ) (sum next : List ℕ) → sum ≡ fold f z i → next ≡ f i sum → next ≡ fold f z (i + 1)
+unfolding fold
+folded f z i sum next e q = rw (add-one, q, e)
+
+pub timesed : (f : List ℕ → List ℕ) (s : List ℕ) (i : ℕ) (r next : List ℕ) → r ≡ times f i s → next ≡ f r → next ≡ times f (i + 1) s
+unfolding times
+timesed f s i r next e q = rw (add-one, q, e)
+
+pub cat-ext : (f g : ℕ → List ℕ) (n : ℕ) → ((i : ℕ) → i < n → f i ≡ g i) → cat f n ≡ cat g n
+unfolding cat
+cat-ext f g zero h = refl
+cat-ext f g (suc n) h = ap₂ (λ (x y : List ℕ). x ++ y) (cat-ext f g n (λ i p. h i (omega arith))) (h n (omega arith))
+
+-- piece i of lists of one width, whatever follows
+pub piece : (f : ℕ → List ℕ) (w n i : ℕ) (rest : List ℕ) → ((k : ℕ) → length (f k) ≡ w) → i < n
+    → take w (drop (w * i) (cat f n ++ rest)) ≡ f i
+unfolding cat
+piece f w zero i rest hw h = absurd (omega arith)
+piece f w (suc n) i rest hw h = elim (decLt i n) [
+  | yes p ↦ rw append-assoc (piece f w n i (f n ++ rest) hw p)
+  | no q ↦ let e : i ≡ n = omega arith in
+      rw (e, append-assoc, drop-at (cat f n) (f n ++ rest) (w * n) (length-cat f w n hw), take-at (f n) rest w (hw n))
+]
+
+-- a list cut into n pieces of w, put together again
+pub pieces : (w n : ℕ) (s : List ℕ) → cat (λ i. take w (drop (w * i) s)) n ≡ take (w * n) s
+unfolding cat
+pieces w zero s = rw mul-zero
+pieces w (suc n) s = rw (pieces w n s, mul-suc, take-add)
+
+-- the front of a list, entry by entry
+pub front : (s : List ℕ) (n : ℕ) → n ≤ length s → take n s ≡ tab (λ i. getD s i 0) n
+front s n h =
+    tab-getD (take n s) n (length-take-le n s h)
+    ∙ tab-ext (λ i. getD (take n s) i 0) (λ i. getD s i 0) n (λ i p. getD-take n s i 0 p)
