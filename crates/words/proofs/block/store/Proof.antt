@@ -56,7 +56,7 @@ loop-again c =
       omega arith,
       (
         c .before .out .given .1 ∙ at .inv .1 .0,
-        appended _ 8 (at .i) _ _ (c .before .before .store-word .last .1 .0) (length-wordBytes _) (omega arith) (at .inv .1 .1) (c .before .before .store-word .ensures),
+        appended _ 8 (at .i) _ _ (c .before .before .store-word .last .1 .0) (length-wordBytes (c .before .before .before .before .before .before .before .args .t1)) (omega arith) (at .inv .1 .1) (c .before .before .store-word .ensures),
       ),
     )
 
