@@ -8,7 +8,7 @@ use native.Mathlib.Decide.{decLt}
 use lib.Dec.{lit<, lit≤}
 use lib.ListN.{length, getD, take, drop, length-take, length-drop, length-append, List·getD-append, List·getD-eq-default}
 use lib.Seq.{take-all, take-append-le, getD-take, getD-drop}
-use lib.Bits.{bitXor, xor-lt, xor-comm, xor-self, xor-zero-l, xor-zero-r}
+use lib.Bits.{bitXor, xor-lt, xor-comm, xor-self, xor-zero-l, xor-zero-r, xor-mod, xor-shr}
 use Rattle.words.specs.Sequence.{tab, cat}
 use Rattle.words.specs.Block.{Block, Bytes, le, lowBytes, wordAt, blockOf, wordBytes, bytesOf, xorAt, xorBlock, xorBytes, zeroBlock}
 use Rattle.words.proofs.Lists.{length-tab, getD-tab, getD-tab-past, tab-ext, tab-getD, length-cat, cat-ext, piece, pieces}
@@ -217,3 +217,56 @@ xorBytes-cancel s k =
     ∙ tab-ext (xorAt (xorBytes s k) k) (λ i. getD s i 0) (length s)
     (λ i p. ap (λ (x : ℕ). bitXor x (getD k i 0)) (getD-tab (xorAt s k) (length s) i p) ∙ xor-cancel-r (getD s i 0) (getD k i 0))
     ∙ sym (tab-getD s (length s) refl)
+
+-- ---- exclusive or of blocks is that of their bytes
+
+tab-front : (f : ℕ → ℕ) (n : ℕ) → tab f (suc n) ≡ f 0 ∷ tab (λ i. f (suc i)) n
+unfolding tab
+tab-front f zero = refl
+tab-front f (suc n) = ap (λ (l : List ℕ). l ++ (f (suc n) ∷ [])) (tab-front f n)
+
+xorBytes-cons : (x y : ℕ) (xs ys : List ℕ) → xorBytes (x ∷ xs) (y ∷ ys) ≡ bitXor x y ∷ xorBytes xs ys
+unfolding xorBytes xorAt
+xorBytes-cons x y xs ys = tab-front (xorAt (x ∷ xs) (y ∷ ys)) (length xs)
+
+xorBytes-append : (a b c d : List ℕ) → length a ≡ length c → xorBytes (a ++ b) (c ++ d) ≡ xorBytes a c ++ xorBytes b d
+unfolding xorBytes tab
+xorBytes-append [] b [] d e = refl
+xorBytes-append [] b (y ∷ ys) d e = absurd (omega arith)
+xorBytes-append (x ∷ xs) b [] d e = absurd (omega arith)
+xorBytes-append (x ∷ xs) b (y ∷ ys) d e =
+    xorBytes-cons x y (xs ++ b) (ys ++ d) ∙ ap (λ (l : List ℕ). bitXor x y ∷ l) (xorBytes-append xs b ys d (omega arith))
+    ∙ ap (λ (l : List ℕ). l ++ xorBytes b d) (sym (xorBytes-cons x y xs ys))
+
+xorBytes-cat : (f g : ℕ → List ℕ) (w n : ℕ) → ((i : ℕ) → length (f i) ≡ w) → ((i : ℕ) → length (g i) ≡ w)
+    → xorBytes (cat f n) (cat g n) ≡ cat (λ i. xorBytes (f i) (g i)) n
+unfolding cat xorBytes tab
+xorBytes-cat f g w zero hf hg = refl
+xorBytes-cat f g w (suc n) hf hg =
+    xorBytes-append (cat f n) (f n) (cat g n) (g n) (length-cat f w n hf ∙ sym (length-cat g w n hg))
+    ∙ ap (λ (l : List ℕ). l ++ xorBytes (f n) (g n)) (xorBytes-cat f g w n hf hg)
+
+lowBytes-xor : (k x y : ℕ) → lowBytes k (bitXor x y) ≡ xorBytes (lowBytes k x) (lowBytes k y)
+unfolding lowBytes xorBytes tab
+lowBytes-xor zero x y = refl
+lowBytes-xor (suc k) x y =
+    rw (xor-mod x y 8, xor-shr x y 8, lowBytes-xor k (x / 256) (y / 256))
+    (sym (xorBytes-cons (x % 256) (y % 256) (lowBytes k (x / 256)) (lowBytes k (y / 256))))
+
+pub bytesOf-xor : (a b : List ℕ) → bytesOf (xorBlock a b) ≡ xorBytes (bytesOf a) (bytesOf b)
+unfolding bytesOf wordBytes
+bytesOf-xor a b =
+    cat-ext (wordBytes (xorBlock a b)) (λ i. xorBytes (wordBytes a i) (wordBytes b i)) 16
+    (λ i h. ap (lowBytes 8) (getD-xor a b i h) ∙ lowBytes-xor 8 (getD a i 0) (getD b i 0))
+    ∙ sym (xorBytes-cat (wordBytes a) (wordBytes b) 8 16 (length-wordBytes a) (length-wordBytes b))
+
+-- 128 bytes are those of their block
+pub bytes-are : (s : List ℕ) → Bytes s → length s ≡ 128 → bytesOf (blockOf s) ≡ s
+bytes-are s h e = bytesOf-blockOf s h (omega arith) ∙ take-all 128 s (omega arith)
+
+pub blockOf-xor : (s t : List ℕ) → Bytes s → Bytes t → length s ≡ 128 → length t ≡ 128
+    → blockOf (xorBytes s t) ≡ xorBlock (blockOf s) (blockOf t)
+blockOf-xor s t hs ht es et =
+    ap₂ (λ (x y : List ℕ). blockOf (xorBytes x y)) (sym (bytes-are s hs es)) (sym (bytes-are t ht et))
+    ∙ ap blockOf (sym (bytesOf-xor (blockOf s) (blockOf t)) ∙ sym (append-nil (bytesOf (xorBlock (blockOf s) (blockOf t)))))
+    ∙ blockOf-bytesOf (xorBlock (blockOf s) (blockOf t)) [] (xor-block (blockOf s) (blockOf t) (block-blockOf s hs) (block-blockOf t ht))
