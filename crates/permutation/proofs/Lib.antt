@@ -1,0 +1,4 @@
+pub mod Maps
+pub mod Lines
+pub mod Places
+pub mod Undone
