@@ -1,6 +1,6 @@
 -- The lines of G on four words: words stay words, and back lines undo them. Assumes nothing.
-use mathlib.Core.Path.{_≡_, refl, sym, ap, _∙_}
-use Prim.Native.Nat.{ℕ, _+_, _-_, _%_, _^_, _<_}
+use mathlib.Core.Path.{_≡_, ap, _∙_}
+use Prim.Native.Nat.{ℕ, _+_, _-_, _^_, _<_}
 use native.Mathlib.Nat.{mod-lt}
 use native.Mathlib.Omega.{arith}
 use lib.Dec.{lit<}
@@ -36,11 +36,6 @@ subW-addW x y hx hy = omega arith
 pub addW-subW : (x y : ℕ) → x < 2 ^ 64 → y < 2 ^ 64 → addW (subW x y) y ≡ x
 unfolding addW subW
 addW-subW x y hx hy = omega arith
-
--- the difference is the word that y added to wraps back to x
-pub subW-is : (x y r : ℕ) → y < 2 ^ 64 → r < 2 ^ 64 → (r + y) % 2 ^ 64 ≡ x → r ≡ subW x y
-unfolding subW
-subW-is x y r hy hr e = omega arith
 
 -- a rotation by n of an exclusive or, and its way back
 module _ (n : ℕ) (n-lt : n < 64) where
@@ -86,7 +81,6 @@ module _ (m n : ℕ) (m-lt : m < 64) (n-lt : n < 64) where
   unHalf-half : (q : Quad) → Words q → unHalf m n (half m n q) ≡ q
   unfolding half unHalf
   unHalf-half q w =
-      let h = half-words q w in
       let a = addW (q .a) (q .b) in
       let d = rotR m (bitXor (q .d) a) in
       let c = addW (q .c) d in

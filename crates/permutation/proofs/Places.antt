@@ -1,5 +1,5 @@
 -- A step on four words, taken at four places of a block. Assumes nothing.
-use mathlib.Core.Path.{_≡_, refl, sym, ap, _∙_}
+use mathlib.Core.Path.{_≡_, sym, ap, _∙_}
 use mathlib.Core.Logic.{_≢_}
 use mathlib.Core.List.{List, [], _∷_}
 use Prim.Native.Nat.{ℕ, zero, suc, _^_, _<_}
@@ -24,6 +24,9 @@ pub record Row (row : List ℕ) : Type 0 where
   pub bc : getD row 1 0 ≢ getD row 2 0
   pub bd : getD row 1 0 ≢ getD row 3 0
   pub cd : getD row 2 0 ≢ getD row 3 0
+
+pub row-in : (row : List ℕ) → Row row → (getD row 0 0 < 16) × ((getD row 1 0 < 16) × ((getD row 2 0 < 16) × (getD row 3 0 < 16)))
+row-in row r = (r .a-in, (r .b-in, (r .c-in, r .d-in)))
 
 -- a place that is none of the row's
 pub record Off (row : List ℕ) (i : ℕ) : Type 0 where

@@ -26,39 +26,47 @@ pub fn g(s: [u64; 16], i: usize, j: usize, k: usize, l: usize) -> [u64; 16]
     requires { ⌜ (i < 16) × ((j < 16) × ((k < 16) × (l < 16))) ⌝ }
     ensures { λ r. ⌜ r ≡ gAt (i ∷ j ∷ k ∷ l ∷ []) s ⌝ }
 {
-    let a1 = add(s[i], s[j]);
-    let d1 = rotate_right(s[l] ^ a1, 32);
-    let c1 = add(s[k], d1);
-    let b1 = rotate_right(s[j] ^ c1, 24);
-    let a2 = add(a1, b1);
-    let d2 = rotate_right(d1 ^ a2, 16);
-    let c2 = add(c1, d2);
-    let b2 = rotate_right(b1 ^ c2, 63);
+    let mut a = s[i];
+    let mut b = s[j];
+    let mut c = s[k];
+    let mut d = s[l];
+    a = add(a, b);
+    d = rotate_right(d ^ a, 32);
+    c = add(c, d);
+    b = rotate_right(b ^ c, 24);
+    a = add(a, b);
+    d = rotate_right(d ^ a, 16);
+    c = add(c, d);
+    b = rotate_right(b ^ c, 63);
     let mut r = s;
-    r[i] = a2;
-    r[j] = b2;
-    r[k] = c2;
-    r[l] = d2;
+    r[i] = a;
+    r[j] = b;
+    r[k] = c;
+    r[l] = d;
     r
 }
 
-// G undone on words i, j, k, l: its eight lines from the last to the first.
+// G undone on words i, j, k, l: the eight lines undone, the last one first.
 pub fn ung(s: [u64; 16], i: usize, j: usize, k: usize, l: usize) -> [u64; 16]
     requires { ⌜ (i < 16) × ((j < 16) × ((k < 16) × (l < 16))) ⌝ }
     ensures { λ r. ⌜ r ≡ unGAt (i ∷ j ∷ k ∷ l ∷ []) s ⌝ }
 {
-    let b1 = rotate_left(s[j], 63) ^ s[k];
-    let c1 = sub(s[k], s[l]);
-    let d1 = rotate_left(s[l], 16) ^ s[i];
-    let a1 = sub(s[i], b1);
-    let b0 = rotate_left(b1, 24) ^ c1;
-    let c0 = sub(c1, d1);
-    let d0 = rotate_left(d1, 32) ^ a1;
-    let a0 = sub(a1, b0);
+    let mut a = s[i];
+    let mut b = s[j];
+    let mut c = s[k];
+    let mut d = s[l];
+    b = rotate_left(b, 63) ^ c;
+    c = sub(c, d);
+    d = rotate_left(d, 16) ^ a;
+    a = sub(a, b);
+    b = rotate_left(b, 24) ^ c;
+    c = sub(c, d);
+    d = rotate_left(d, 32) ^ a;
+    a = sub(a, b);
     let mut r = s;
-    r[i] = a0;
-    r[j] = b0;
-    r[k] = c0;
-    r[l] = d0;
+    r[i] = a;
+    r[j] = b;
+    r[k] = c;
+    r[l] = d;
     r
 }

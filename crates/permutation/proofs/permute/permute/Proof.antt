@@ -1,39 +1,44 @@
+-- The loop's invariant: r is the block after i rounds. Assumes nothing.
+use mathlib.Core.Path.{_≡_, refl}
+use Prim.Native.Nat.{_≤_, _-_}
+use native.Mathlib.Omega.{arith}
+use Rattle.words.specs.Sequence.{times}
+use Rattle.words.proofs.Lists.{timesed}
+use Rattle.permutation.specs.Permutation.{perm}
 use borrow.Author.Needs.{needs}
 use Rattle.permutation.proofs.permute.permute.Statement.{statement}
 use Rattle.permutation.proofs.permute.permute.Tie as tie
-use Rattle.permutation.proofs.permute.permute.Reads as reads
-use Rattle.permutation.proofs.permute.permute.Lts as lts
-use Rattle.permutation.proofs.round.round.Reads as round-reads
 
 abbrev Inv-loop : tie.InvT-loop
-Inv-loop rounds r₀ i₀ r i = ?
+Inv-loop rounds r₀ i₀ r i = (i ≤ rounds) × (r ≡ perm i r₀)
 
 abbrev μ-loop : tie.MeasureT-loop
-μ-loop rounds r₀ i₀ r i = ?
+μ-loop rounds r₀ i₀ r i = rounds - i
 
--- src/permute.rt:13:5
 loop-holds : tie.Need-loop-holds Inv-loop μ-loop
-loop-holds c = search needs
+unfolding perm times
+loop-holds c = (search needs, refl)
 
--- src/permute.rt:14:13
 round-requires : tie.Need-round-requires Inv-loop μ-loop
 round-requires c κs = search needs
 
--- src/permute.rt:16:9
 add-i : tie.Need-add-i Inv-loop μ-loop
 add-i c = search needs
 
--- src/permute.rt:13:5
 loop-less : tie.Need-loop-less Inv-loop μ-loop
 loop-less c = search needs
 
--- src/permute.rt:13:5
 loop-again : tie.Need-loop-again Inv-loop μ-loop
-loop-again c = search needs
+unfolding perm
+loop-again c =
+    let at = c .before .before .loop in
+    (search needs, timesed _ _ (at .i) (at .r) _ (at .inv .1) (c .round .ensures))
 
--- src/permute.rt:8:1
 returns : tie.Need-returns Inv-loop μ-loop
-returns c = search needs
+returns c =
+    let at = c .before .loop in
+    let e : at .i ≡ c .before .before .args .rounds = omega arith in
+    rw e at (at .inv .1)
 
 pub permute-spec : {M : Type 1} → statement M
 permute-spec =

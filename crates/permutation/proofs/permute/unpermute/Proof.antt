@@ -1,39 +1,44 @@
+-- The loop's invariant: r is the block after i rounds undone. Assumes nothing.
+use mathlib.Core.Path.{_≡_, refl}
+use Prim.Native.Nat.{_≤_, _-_}
+use native.Mathlib.Omega.{arith}
+use Rattle.words.specs.Sequence.{times}
+use Rattle.words.proofs.Lists.{timesed}
+use Rattle.permutation.specs.Permutation.{unPerm}
 use borrow.Author.Needs.{needs}
 use Rattle.permutation.proofs.permute.unpermute.Statement.{statement}
 use Rattle.permutation.proofs.permute.unpermute.Tie as tie
-use Rattle.permutation.proofs.permute.unpermute.Reads as reads
-use Rattle.permutation.proofs.permute.unpermute.Lts as lts
-use Rattle.permutation.proofs.round.unround.Reads as unround-reads
 
 abbrev Inv-loop : tie.InvT-loop
-Inv-loop rounds r₀ i₀ r i = ?
+Inv-loop rounds r₀ i₀ r i = (i ≤ rounds) × (r ≡ unPerm i r₀)
 
 abbrev μ-loop : tie.MeasureT-loop
-μ-loop rounds r₀ i₀ r i = ?
+μ-loop rounds r₀ i₀ r i = rounds - i
 
--- src/permute.rt:27:5
 loop-holds : tie.Need-loop-holds Inv-loop μ-loop
-loop-holds c = search needs
+unfolding unPerm times
+loop-holds c = (search needs, refl)
 
--- src/permute.rt:28:13
 unround-requires : tie.Need-unround-requires Inv-loop μ-loop
 unround-requires c κs = search needs
 
--- src/permute.rt:30:9
 add-i : tie.Need-add-i Inv-loop μ-loop
 add-i c = search needs
 
--- src/permute.rt:27:5
 loop-less : tie.Need-loop-less Inv-loop μ-loop
 loop-less c = search needs
 
--- src/permute.rt:27:5
 loop-again : tie.Need-loop-again Inv-loop μ-loop
-loop-again c = search needs
+unfolding unPerm
+loop-again c =
+    let at = c .before .before .loop in
+    (search needs, timesed _ _ (at .i) (at .r) _ (at .inv .1) (c .unround .ensures))
 
--- src/permute.rt:22:1
 returns : tie.Need-returns Inv-loop μ-loop
-returns c = search needs
+returns c =
+    let at = c .before .loop in
+    let e : at .i ≡ c .before .before .args .rounds = omega arith in
+    rw e at (at .inv .1)
 
 pub unpermute-spec : {M : Type 1} → statement M
 unpermute-spec =
