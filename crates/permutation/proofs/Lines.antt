@@ -72,9 +72,9 @@ module _ (m n : ℕ) (m-lt : m < 64) (n-lt : n < 64) where
   unHalf-words : (q : Quad) → Words q → Words (unHalf m n q)
   unfolding unHalf
   unHalf-words q w = record {
-    a = subW-lt (q .a) (bitXor (rotL n (q .b)) (q .c));
+    a = subW-lt _ _;
     b = unTurn-lt n n-lt (q .b) (q .c) (w .b) (w .c);
-    c = subW-lt (q .c) (q .d);
+    c = subW-lt _ _;
     d = unTurn-lt m m-lt (q .d) (q .a) (w .d) (w .a);
   }
 

@@ -9,11 +9,11 @@ pub fn permute(s: [u64; 16], rounds: u32) -> [u64; 16]
     ensures { λ r. ⌜ r ≡ perm rounds s ⌝ }
 {
     let mut r = s;
-    let mut i: u32 = 0;
-    while i < rounds {
+    let mut done: u32 = 0;
+    while done < rounds {
         let next = round(r);
         r = next;
-        i += 1;
+        done += 1;
     }
     r
 }
@@ -23,11 +23,11 @@ pub fn unpermute(s: [u64; 16], rounds: u32) -> [u64; 16]
     ensures { λ r. ⌜ r ≡ unPerm rounds s ⌝ }
 {
     let mut r = s;
-    let mut i: u32 = 0;
-    while i < rounds {
+    let mut undone: u32 = 0;
+    while undone < rounds {
         let next = unround(r);
         r = next;
-        i += 1;
+        undone += 1;
     }
     r
 }

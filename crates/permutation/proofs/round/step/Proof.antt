@@ -26,13 +26,13 @@ array-read-g-3 c = search needs
 array-read-g-4 : tie.Need-array-read-g-4
 array-read-g-4 c = search needs
 
-g-requires : tie.Need-g-requires
-unfolding groups
-g-requires c κs = row-in (getD groups (c .before .args .k) []) (row-at groups groups-rows (c .before .args .k) (c .before .pre))
-
 returns : tie.Need-returns
 unfolding groups gAt stepAt pick put
 returns c = c .g .ensures
+
+g-requires : tie.Need-g-requires
+unfolding groups
+g-requires c κs = row-in (getD groups (c .before .args .k) []) (row-at groups groups-rows (c .before .args .k) (c .before .pre))
 
 pub step-spec : {M : Type 1} → statement M
 step-spec =

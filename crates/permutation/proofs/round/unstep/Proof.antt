@@ -26,13 +26,13 @@ array-read-ung-3 c = search needs
 array-read-ung-4 : tie.Need-array-read-ung-4
 array-read-ung-4 c = search needs
 
-ung-requires : tie.Need-ung-requires
-unfolding groups
-ung-requires c κs = row-in (getD groups (c .before .args .k) []) (row-at groups groups-rows (c .before .args .k) (c .before .pre))
-
 returns : tie.Need-returns
 unfolding groups unGAt stepAt pick put
 returns c = c .ung .ensures
+
+ung-requires : tie.Need-ung-requires
+unfolding groups
+ung-requires c κs = row-in (getD groups (c .before .args .k) []) (row-at groups groups-rows (c .before .args .k) (c .before .pre))
 
 pub unstep-spec : {M : Type 1} → statement M
 unstep-spec =
