@@ -1,0 +1,5 @@
+pub mod Maps
+pub mod Lines
+pub mod Places
+pub mod Groups
+pub mod Undone

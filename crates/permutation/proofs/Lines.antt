@@ -1,0 +1,113 @@
+-- The lines of G on four words: words stay words, and back lines undo them. Assumes nothing.
+use mathlib.Core.Path.{_≡_, ap, _∙_}
+use Prim.Native.Nat.{ℕ, _+_, _-_, _^_, _<_}
+use native.Mathlib.Nat.{mod-lt}
+use native.Mathlib.Omega.{arith}
+use lib.Dec.{lit<}
+use lib.Bits.{bitXor, xor-lt}
+use Rattle.words.specs.Word.{addW, subW, rotR, rotL}
+use Rattle.words.proofs.Xor.{xor-cancel-r}
+use Rattle.words.proofs.Words.{rotR-lt, rotR-back}
+use Rattle.permutation.specs.Permutation.{Quad, half, unHalf, gOf, unGOf}
+use Rattle.permutation.specs.Undo.{Undo}
+use Rattle.permutation.proofs.Maps.{undo-then}
+
+-- four words of 64 bits
+pub record Words (q : Quad) : Type 0 where
+  pub a : q .a < 2 ^ 64
+  pub b : q .b < 2 ^ 64
+  pub c : q .c < 2 ^ 64
+  pub d : q .d < 2 ^ 64
+
+-- ---- one line
+
+pub addW-lt : (x y : ℕ) → addW x y < 2 ^ 64
+unfolding addW
+addW-lt x y = mod-lt (x + y) (lit< tt)
+
+pub subW-lt : (x y : ℕ) → subW x y < 2 ^ 64
+unfolding subW
+subW-lt x y = mod-lt (x + (2 ^ 64 - y)) (lit< tt)
+
+pub subW-addW : (x y : ℕ) → x < 2 ^ 64 → y < 2 ^ 64 → subW (addW x y) y ≡ x
+unfolding addW subW
+subW-addW x y hx hy = omega arith
+
+pub addW-subW : (x y : ℕ) → x < 2 ^ 64 → y < 2 ^ 64 → addW (subW x y) y ≡ x
+unfolding addW subW
+addW-subW x y hx hy = omega arith
+
+-- a rotation by n of an exclusive or, and its way back
+module _ (n : ℕ) (n-lt : n < 64) where
+  turn-lt : (x y : ℕ) → x < 2 ^ 64 → y < 2 ^ 64 → rotR n (bitXor x y) < 2 ^ 64
+  turn-lt x y hx hy = rotR-lt n (64 - n) (omega arith) (bitXor x y) (xor-lt 64 x y hx hy)
+
+  unTurn-lt : (x y : ℕ) → x < 2 ^ 64 → y < 2 ^ 64 → bitXor (rotL n x) y < 2 ^ 64
+  unfolding rotL
+  unTurn-lt x y hx hy = xor-lt 64 (rotR (64 - n) x) y (rotR-lt (64 - n) n (omega arith) x hx) hy
+
+  unTurn-turn : (x y : ℕ) → x < 2 ^ 64 → y < 2 ^ 64 → bitXor (rotL n (rotR n (bitXor x y))) y ≡ x
+  unfolding rotL
+  unTurn-turn x y hx hy = rw (rotR-back n (64 - n) (omega arith) (bitXor x y) (xor-lt 64 x y hx hy)) (xor-cancel-r x y)
+
+  turn-unTurn : (x y : ℕ) → x < 2 ^ 64 → y < 2 ^ 64 → rotR n (bitXor (bitXor (rotL n x) y) y) ≡ x
+  unfolding rotL
+  turn-unTurn x y hx hy = rw (xor-cancel-r (rotR (64 - n) x) y) (rotR-back (64 - n) n (omega arith) x hx)
+
+-- ---- four lines, and G
+
+-- two fours are equal when their words are
+pub quad : (p q : Quad) → p .a ≡ q .a → p .b ≡ q .b → p .c ≡ q .c → p .d ≡ q .d → p ≡ q
+quad p q ea eb ec ed = λ i. record { a = ea i; b = eb i; c = ec i; d = ed i }
+
+module _ (m n : ℕ) (m-lt : m < 64) (n-lt : n < 64) where
+  half-words : (q : Quad) → Words q → Words (half m n q)
+  unfolding half
+  half-words q w =
+      let ha = addW-lt (q .a) (q .b) in
+      let hd = turn-lt m m-lt (q .d) (addW (q .a) (q .b)) (w .d) ha in
+      let hc = addW-lt (q .c) (rotR m (bitXor (q .d) (addW (q .a) (q .b)))) in
+      record { a = ha; b = turn-lt n n-lt (q .b) _ (w .b) hc; c = hc; d = hd }
+
+  unHalf-words : (q : Quad) → Words q → Words (unHalf m n q)
+  unfolding unHalf
+  unHalf-words q w = record {
+    a = subW-lt _ _;
+    b = unTurn-lt n n-lt (q .b) (q .c) (w .b) (w .c);
+    c = subW-lt _ _;
+    d = unTurn-lt m m-lt (q .d) (q .a) (w .d) (w .a);
+  }
+
+  unHalf-half : (q : Quad) → Words q → unHalf m n (half m n q) ≡ q
+  unfolding half unHalf
+  unHalf-half q w =
+      let a = addW (q .a) (q .b) in
+      let d = rotR m (bitXor (q .d) a) in
+      let c = addW (q .c) d in
+      let eb = unTurn-turn n n-lt (q .b) c (w .b) (addW-lt (q .c) d) in
+      quad (unHalf m n (half m n q)) q
+      (ap (subW a) eb ∙ subW-addW (q .a) (q .b) (w .a) (w .b))
+      eb
+      (subW-addW (q .c) d (w .c) (turn-lt m m-lt (q .d) a (w .d) (addW-lt (q .a) (q .b))))
+      (unTurn-turn m m-lt (q .d) a (w .d) (addW-lt (q .a) (q .b)))
+
+  half-unHalf : (q : Quad) → Words q → half m n (unHalf m n q) ≡ q
+  unfolding half unHalf
+  half-unHalf q w =
+      let b = bitXor (rotL n (q .b)) (q .c) in
+      let d = bitXor (rotL m (q .d)) (q .a) in
+      let ea = addW-subW (q .a) b (w .a) (unTurn-lt n n-lt (q .b) (q .c) (w .b) (w .c)) in
+      let ed = ap (λ (x : ℕ). rotR m (bitXor d x)) ea ∙ turn-unTurn m m-lt (q .d) (q .a) (w .d) (w .a) in
+      let ec = ap (addW (subW (q .c) (q .d))) ed ∙ addW-subW (q .c) (q .d) (w .c) (w .d) in
+      quad (half m n (unHalf m n q)) q
+      ea
+      (ap (λ (x : ℕ). rotR n (bitXor b x)) ec ∙ turn-unTurn n n-lt (q .b) (q .c) (w .b) (w .c))
+      ec
+      ed
+
+  pub half-undo : Undo Words (half m n) (unHalf m n)
+  half-undo = record { forth-keeps = half-words; back-keeps = unHalf-words; back-forth = unHalf-half; forth-back = half-unHalf }
+
+pub g-undo : Undo Words gOf unGOf
+unfolding gOf unGOf
+g-undo = undo-then (half-undo 32 24 (lit< tt) (lit< tt)) (half-undo 16 63 (lit< tt) (lit< tt))

@@ -1,0 +1,105 @@
+-- The permutation P and the back permutation (document 01, "The permutation (section 8)"). Assumes nothing.
+use mathlib.Core.List.{List, [], _∷_}
+use Prim.Native.Nat.{ℕ}
+use lib.ListN.{getD, set}
+use lib.Bits.{bitXor}
+use Rattle.words.specs.Word.{addW, subW, rotR, rotL}
+use Rattle.words.specs.Sequence.{times}
+
+-- words a, b, c, d
+pub record Quad : Type 0 where
+  pub a : ℕ
+  pub b : ℕ
+  pub c : ℕ
+  pub d : ℕ
+
+-- a = a + b; d = (d xor a) rotated right by m; c = c + d; b = (b xor c) rotated right by n
+unfoldable pub half : ℕ → ℕ → Quad → Quad
+half m n q =
+    let a = addW (q .a) (q .b) in
+    let d = rotR m (bitXor (q .d) a) in
+    let c = addW (q .c) d in
+    let b = rotR n (bitXor (q .b) c) in
+    record { a = a; b = b; c = c; d = d }
+
+-- the step G: the four lines with 32 and 24, then the same four lines with 16 and 63
+unfoldable pub gOf : Quad → Quad
+gOf q = half 16 63 (half 32 24 q)
+
+-- the four lines undone, the last one first
+unfoldable pub unHalf : ℕ → ℕ → Quad → Quad
+unHalf m n q =
+    let b = bitXor (rotL n (q .b)) (q .c) in
+    let c = subW (q .c) (q .d) in
+    let d = bitXor (rotL m (q .d)) (q .a) in
+    let a = subW (q .a) b in
+    record { a = a; b = b; c = c; d = d }
+
+-- the step G undone
+unfoldable pub unGOf : Quad → Quad
+unGOf q = unHalf 32 24 (unHalf 16 63 q)
+
+-- the four words of a block whose word numbers are in the row
+unfoldable pub pick : List ℕ → List ℕ → Quad
+pick row s =
+    record {
+      a = getD s (getD row 0 0) 0;
+      b = getD s (getD row 1 0) 0;
+      c = getD s (getD row 2 0) 0;
+      d = getD s (getD row 3 0) 0;
+    }
+
+-- the block with those four words put in their places
+unfoldable pub put : List ℕ → Quad → List ℕ → List ℕ
+put row q s = set (set (set (set s (getD row 0 0) (q .a)) (getD row 1 0) (q .b)) (getD row 2 0) (q .c)) (getD row 3 0) (q .d)
+
+-- a step on four words, taken at the word numbers of a row
+unfoldable pub stepAt : (Quad → Quad) → List ℕ → List ℕ → List ℕ
+stepAt f row s = put row (f (pick row s)) s
+
+-- G over one group of word numbers
+unfoldable pub gAt : List ℕ → List ℕ → List ℕ
+gAt row s = stepAt gOf row s
+
+-- G over one group, undone
+unfoldable pub unGAt : List ℕ → List ℕ → List ℕ
+unGAt row s = stepAt unGOf row s
+
+-- G over each group in turn
+unfoldable pub over : List (List ℕ) → List ℕ → List ℕ
+over [] s = s
+over (row ∷ rows) s = over rows (gAt row s)
+
+-- the same undone, the last group first
+unfoldable pub unOver : List (List ℕ) → List ℕ → List ℕ
+unOver [] s = s
+unOver (row ∷ rows) s = unGAt row (unOver rows s)
+
+-- the eight groups of word numbers
+unfoldable pub groups : List (List ℕ)
+groups =
+    (0 ∷ 4 ∷ 8 ∷ 12 ∷ [])
+    ∷ (1 ∷ 5 ∷ 9 ∷ 13 ∷ [])
+    ∷ (2 ∷ 6 ∷ 10 ∷ 14 ∷ [])
+    ∷ (3 ∷ 7 ∷ 11 ∷ 15 ∷ [])
+    ∷ (0 ∷ 5 ∷ 10 ∷ 15 ∷ [])
+    ∷ (1 ∷ 6 ∷ 11 ∷ 12 ∷ [])
+    ∷ (2 ∷ 7 ∷ 8 ∷ 13 ∷ [])
+    ∷ (3 ∷ 4 ∷ 9 ∷ 14 ∷ [])
+    ∷ []
+
+-- a round takes G over the eight groups
+unfoldable pub round : List ℕ → List ℕ
+round s = over groups s
+
+-- a round undone
+unfoldable pub unRound : List ℕ → List ℕ
+unRound s = unOver groups s
+
+-- P is n rounds
+unfoldable pub perm : ℕ → List ℕ → List ℕ
+perm n s = times round n s
+
+-- the back permutation undoes P
+unfoldable pub unPerm : ℕ → List ℕ → List ℕ
+unPerm n s = times unRound n s

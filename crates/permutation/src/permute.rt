@@ -1,0 +1,33 @@
+// P with a count of rounds, and the back permutation.
+use crate::round::round;
+use crate::round::unround;
+ghost use mathlib.Core.Path.{_≡_};
+ghost use Rattle.permutation.specs.Permutation.{perm, unPerm};
+
+// P of a block.
+pub fn permute(s: [u64; 16], rounds: u32) -> [u64; 16]
+    ensures { λ r. ⌜ r ≡ perm rounds s ⌝ }
+{
+    let mut r = s;
+    let mut done: u32 = 0;
+    while done < rounds {
+        let next = round(r);
+        r = next;
+        done += 1;
+    }
+    r
+}
+
+// P of a block, undone.
+pub fn unpermute(s: [u64; 16], rounds: u32) -> [u64; 16]
+    ensures { λ r. ⌜ r ≡ unPerm rounds s ⌝ }
+{
+    let mut r = s;
+    let mut undone: u32 = 0;
+    while undone < rounds {
+        let next = unround(r);
+        r = next;
+        undone += 1;
+    }
+    r
+}
