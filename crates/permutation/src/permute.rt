@@ -4,7 +4,7 @@ use crate::round::unround;
 ghost use mathlib.Core.Path.{_≡_};
 ghost use Rattle.permutation.specs.Permutation.{perm, unPerm};
 
-// P of a block.
+// P of a block, for every count of rounds.
 pub fn permute(s: [u64; 16], rounds: u32) -> [u64; 16]
     ensures { λ r. ⌜ r ≡ perm rounds s ⌝ }
 {
@@ -18,7 +18,7 @@ pub fn permute(s: [u64; 16], rounds: u32) -> [u64; 16]
     r
 }
 
-// P of a block, undone.
+// P of a block undone, for every count of rounds.
 pub fn unpermute(s: [u64; 16], rounds: u32) -> [u64; 16]
     ensures { λ r. ⌜ r ≡ unPerm rounds s ⌝ }
 {
