@@ -1,8 +1,9 @@
 -- Laws of maps that undo each other: turned round, one after the other, and taken any number of times. Assumes nothing.
-use mathlib.Core.Path.{_≡_, refl, ap, _∙_}
+use mathlib.Core.Path.{_≡_, refl, sym, ap, _∙_}
 use mathlib.Core.List.{List}
 use Prim.Native.Nat.{ℕ, zero, suc}
 use Rattle.words.specs.Sequence.{times}
+use Rattle.words.proofs.Times.{times-first, times-keeps}
 use Rattle.permutation.specs.Undo.{Undo}
 
 module _ {A : Type 0} {P : A → Type 0} where
@@ -21,23 +22,12 @@ module _ {A : Type 0} {P : A → Type 0} where
     forth-back = λ x p. ap g (u .forth-back (k x) (v .back-keeps x p)) ∙ v .forth-back x p;
   }
 
--- the first turn may be taken out instead of the last
-pub times-first : (f : List ℕ → List ℕ) (n : ℕ) (s : List ℕ) → times f (suc n) s ≡ times f n (f s)
-unfolding times
-times-first f zero s = refl
-times-first f (suc n) s = ap f (times-first f n s)
-
 module _ (P : List ℕ → Type 0) where
-  times-keeps : (f : List ℕ → List ℕ) → ((s : List ℕ) → P s → P (f s)) → (n : ℕ) (s : List ℕ) → P s → P (times f n s)
-  unfolding times
-  times-keeps f k zero s p = p
-  times-keeps f k (suc n) s p = k (times f n s) (times-keeps f k n s p)
-
   times-back : (f h : List ℕ → List ℕ) → Undo P f h → (n : ℕ) (s : List ℕ) → P s → times h n (times f n s) ≡ s
   unfolding times
   times-back f h u zero s p = refl
   times-back f h u (suc n) s p =
-      ap (λ (t : List ℕ). times h (suc n) t) (times-first f n s)
+      ap (λ (t : List ℕ). times h (suc n) t) (sym (times-first f n s))
       ∙ ap h (times-back f h u n (f s) (u .forth-keeps s p))
       ∙ u .back-forth s p
 

@@ -1,4 +1,5 @@
 pub mod Lists
+pub mod Times
 pub mod Xor
 pub mod Words
 pub mod Blocks
