@@ -270,3 +270,25 @@ blockOf-xor s t hs ht es et =
     ap₂ (λ (x y : List ℕ). blockOf (xorBytes x y)) (sym (bytes-are s hs es)) (sym (bytes-are t ht et))
     ∙ ap blockOf (sym (bytesOf-xor (blockOf s) (blockOf t)) ∙ sym (append-nil (bytesOf (xorBlock (blockOf s) (blockOf t)))))
     ∙ blockOf-bytesOf (xorBlock (blockOf s) (blockOf t)) [] (xor-block (blockOf s) (blockOf t) (block-blockOf s hs) (block-blockOf t ht))
+
+-- ---- a block is what its bytes read as, zeros past their end
+
+le-ext : (a b : List ℕ) → ((i : ℕ) → getD a i 0 ≡ getD b i 0) → le a ≡ le b
+unfolding le
+le-ext [] [] h = refl
+le-ext [] (y ∷ ys) h = rw (sym (h 0), sym (le-ext [] ys (λ i. h (suc i))))
+le-ext (x ∷ xs) [] h = rw (h 0, le-ext xs [] (λ i. h (suc i)))
+le-ext (x ∷ xs) (y ∷ ys) h = rw (h 0, le-ext xs ys (λ i. h (suc i)))
+
+reads : (n k : ℕ) (s t : List ℕ) → ((i : ℕ) → getD s i 0 ≡ getD t i 0) → (i : ℕ) → getD (take n (drop k s)) i 0 ≡ getD (take n (drop k t)) i 0
+reads n k s t h i = elim (decLt i n)
+  [ yes p ↦ getD-take n (drop k s) i 0 p ∙ getD-drop k s i 0 ∙ h (k + i) ∙ sym (getD-take n (drop k t) i 0 p ∙ getD-drop k t i 0)
+  | no q ↦ past q s ∙ sym (past q t)
+  ]
+  where
+    past : (i < n → ⊥) → (l : List ℕ) → getD (take n (drop k l)) i 0 ≡ 0
+    past q l = List·getD-eq-default (take n (drop k l)) 0 {n = i} (simp length-take (omega arith))
+
+pub blockOf-ext : (s t : List ℕ) → ((i : ℕ) → getD s i 0 ≡ getD t i 0) → blockOf s ≡ blockOf t
+unfolding blockOf wordAt
+blockOf-ext s t h = tab-ext (wordAt s) (wordAt t) 16 (λ i p. le-ext (take 8 (drop (8 * i) s)) (take 8 (drop (8 * i) t)) (reads 8 (8 * i) s t h))

@@ -2,14 +2,14 @@
 use mathlib.Core.Path.{_≡_, refl, sym, ap, ap₂, _∙_, subst}
 use mathlib.Core.List.{List, [], _∷_, _++_, append-assoc, append-nil}
 use Prim.Native.Nat.{ℕ, zero, suc, _+_, _-_, _*_, _≤_, _<_}
-use native.Mathlib.Nat.{mul-suc, mul-zero}
+use native.Mathlib.Nat.{mul-suc, mul-zero, le-of-eq, mul-le-mul-left}
 use native.Mathlib.Numerals.{add-one}
 use native.Mathlib.Omega.{arith}
 use native.Mathlib.Decide.{decLt}
 use lib.ListN.{length, getD, take, drop, set, length-append, length-drop, length-set, List·getD-append, List·getD-eq-default, drop-of-length-le}
-use lib.Seq.{drop-drop, getD-at, take-at, drop-at, take-all, ext-getD, drop-length, take-add, length-take-le, getD-take, take-suc-set}
+use lib.Seq.{drop-drop, getD-at, take-at, drop-at, take-all, ext-getD, drop-length, take-add, length-take-le, getD-take, take-suc-set, drop-cons, set-at, take-append-le, getD-set-same, getD-set-other}
 use borrow.Rule.Slice.PartMut.{putMid}
-use Rattle.words.specs.Sequence.{tab, cat, fold, times}
+use Rattle.words.specs.Sequence.{tab, cat, fold, times, zeros}
 
 pub length-tab : (f : ℕ → ℕ) (n : ℕ) → length (tab f n) ≡ n
 unfolding tab
@@ -115,3 +115,37 @@ pub front : (s : List ℕ) (n : ℕ) → n ≤ length s → take n s ≡ tab (λ
 front s n h =
     tab-getD (take n s) n (length-take-le n s h)
     ∙ tab-ext (λ i. getD (take n s) i 0) (λ i. getD s i 0) n (λ i p. getD-take n s i 0 p)
+
+-- one more entry of a list whose rest is as it was
+pub placed : (f : ℕ → ℕ) (i : ℕ) (old xs : List ℕ) (v : ℕ) → i < length old → xs ≡ tab f i ++ drop i old → v ≡ f i
+    → set xs i v ≡ tab f (i + 1) ++ drop (i + 1) old
+unfolding tab
+placed f i old xs v h e q =
+    rw (e, q, drop-cons old i 0, set-at (tab f i) (getD old i 0) (drop (suc i) old) (f i) i (length-tab f i), add-one)
+    (sym (append-assoc (tab f i) (f i ∷ []) (drop (suc i) old)))
+
+-- the first pieces of lists of one width
+pub take-cat : (f : ℕ → List ℕ) (w n k : ℕ) → ((i : ℕ) → length (f i) ≡ w) → k ≤ n → take (w * k) (cat f n) ≡ cat f k
+unfolding cat
+take-cat f w zero k hw h = let e : k ≡ 0 = omega arith in rw (e, mul-zero)
+take-cat f w (suc n) k hw h = elim (decLt n k)
+  [ yes p ↦ let e : k ≡ suc n = omega arith in rw e (take-all (w * suc n) (cat f n ++ f n) (le-of-eq (length-cat f w (suc n) hw)))
+  | no q ↦ take-append-le (w * k) (cat f n) (f n) (subst (λ (m : ℕ). w * k ≤ m) (sym (length-cat f w n hw)) (mul-le-mul-left w (omega arith)))
+      ∙ take-cat f w n k hw (omega arith)
+  ]
+
+-- a list read entry by entry, past its end as zero: one more entry behind those of t
+pub extended : (xs t : List ℕ) (v : ℕ) → length t < length xs → ((j : ℕ) → getD xs j 0 ≡ getD t j 0)
+    → (j : ℕ) → getD (set xs (length t) v) j 0 ≡ getD (t ++ (v ∷ [])) j 0
+extended xs t v h e j = elim (decLt j (length t))
+  [ yes p ↦ getD-set-other xs (length t) j v 0 (λ q. omega arith) ∙ e j ∙ sym (List·getD-append t (v ∷ []) 0 j p)
+  | no q ↦ elim (decLt (length t) j)
+    [ yes r ↦ getD-set-other xs (length t) j v 0 (λ u. omega arith) ∙ e j ∙ List·getD-eq-default t 0 {n = j} (omega arith)
+        ∙ sym (List·getD-eq-default (t ++ (v ∷ [])) 0 {n = j} (simp length-append (omega arith)))
+    | no u ↦ let s : j ≡ length t = omega arith in rw (s, getD-set-same xs (length t) v 0 h) (sym (getD-at t v [] 0 (length t) refl))
+    ]
+  ]
+
+pub getD-zeros : (n i : ℕ) → getD (zeros n) i 0 ≡ 0
+unfolding zeros
+getD-zeros n i = elim (decLt i n) [ yes p ↦ getD-tab (λ j. 0) n i p | no q ↦ getD-tab-past (λ j. 0) n i (omega arith) ]
