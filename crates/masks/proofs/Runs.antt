@@ -1,0 +1,212 @@
+-- Alpha word by word: the words of a mask and of those after it are one run, of which each mask is a window. Assumes nothing.
+use mathlib.Core.Path.{_≡_, refl, sym, ap, ap₂, _∙_, subst}
+use mathlib.Core.List.{List, [], _∷_, _++_}
+use Prim.Native.Nat.{ℕ, zero, suc, _+_, _-_, _*_, _^_, _≤_, _<_}
+use native.Mathlib.Nat.{add-comm, add-zero, zero-add, add-suc, suc-add, mod-lt}
+use native.Mathlib.Numerals.{add-one}
+use native.Mathlib.Omega.{arith}
+use native.Mathlib.Decide.{decLt}
+use lib.Dec.{lit<}
+use lib.ListN.{length, getD, take, drop, length-append, length-take, length-drop, List·getD-append, List·getD-eq-default}
+use lib.Seq.{getD-at, getD-drop, getD-take, ext-getD}
+use lib.Pow.{pow-pos}
+use lib.Bits.{bitXor, xor-lt}
+use Rattle.words.specs.Sequence.{tab, times}
+use Rattle.words.specs.Word.{rotR, rotL, shl}
+use Rattle.words.specs.Block.{Block, xorBlock}
+use Rattle.words.proofs.Lists.{getD-tab}
+use Rattle.words.proofs.Words.{rotR-lt, rotR-back, shl-lt}
+use Rattle.words.proofs.Xor.{xor-cancel-r}
+use Rattle.words.proofs.Blocks.{xor-block, getD-xor, block-is}
+use Rattle.masks.specs.Steps.{alpha, alphaW, beta, gamma}
+use Rattle.masks.specs.BackSteps.{unAlpha}
+use Rattle.masks.proofs.Linear.{OnPair, pair-xor}
+use Rattle.masks.proofs.Solving.{word-rotL, word-shl}
+
+-- two blocks are equal when their words are
+pub block-ext : (s t : List ℕ) → Block s → Block t → ((i : ℕ) → i < 16 → getD s i 0 ≡ getD t i 0) → s ≡ t
+block-ext s t hs ht h =
+    ext-getD 0 s t (hs .long ∙ sym (ht .long)) (λ i p. h i (subst (λ (k : ℕ). i < k) (hs .long) p))
+
+-- a list of sixteen is a block when each of its words fits
+pub block-of : (s : List ℕ) → length s ≡ 16 → ((i : ℕ) → i < 16 → getD s i 0 < 2 ^ 64) → Block s
+block-of s e h = record {
+  long = e;
+  words = λ i. elim (decLt i 16) [
+    | yes p ↦ h i p
+    | no q ↦ rw (List·getD-eq-default s 0 {n = i} (omega arith)) (pow-pos 64)
+  ];
+}
+
+-- ---- one step of alpha
+
+pub pair-alphaW : OnPair alphaW
+unfolding alphaW
+pair-alphaW = pair-xor (rotL 53) (shl 13) word-rotL word-shl
+
+module _ (s : List ℕ) (b : Block s) where
+  fifteen : length (drop 1 s) ≡ 15
+  fifteen = length-drop 1 s ∙ ap (λ (n : ℕ). n - 1) (b .long)
+
+  -- words 1 to 15 move down
+  pub alpha-moves : (i : ℕ) → i < 15 → getD (alpha s) i 0 ≡ getD s (suc i) 0
+  unfolding alpha
+  alpha-moves i h =
+      List·getD-append (drop 1 s) (alphaW (getD s 0 0) (getD s 5 0) ∷ []) 0 i (rw fifteen h)
+      ∙ getD-drop 1 s i 0 ∙ ap (λ (n : ℕ). getD s n 0) (omega arith)
+
+  -- word 15 is new
+  pub alpha-new : getD (alpha s) 15 0 ≡ alphaW (getD s 0 0) (getD s 5 0)
+  unfolding alpha
+  alpha-new = getD-at (drop 1 s) (alphaW (getD s 0 0) (getD s 5 0)) [] 0 15 fifteen
+
+  pub alpha-block : Block (alpha s)
+  unfolding alpha
+  alpha-block = block-of (alpha s) (simp (length-append, length-drop) (omega arith)) word
+    where
+      word : (i : ℕ) → i < 16 → getD (alpha s) i 0 < 2 ^ 64
+      word i h = elim (decLt i 15) [
+        | yes p ↦ rw (alpha-moves i p) (b .words (suc i))
+        | no q ↦ let e : i ≡ 15 = omega arith in rw (e, alpha-new) (pair-alphaW .fits (getD s 0 0) (getD s 5 0) (b .words 0) (b .words 5))
+      ]
+
+-- alpha keeps exclusive or
+pub alpha-linear : (s t : List ℕ) → Block s → Block t → alpha (xorBlock s t) ≡ xorBlock (alpha s) (alpha t)
+alpha-linear s t hs ht =
+    let ha = alpha-block s hs in
+    let hb = alpha-block t ht in
+    let hx = xor-block s t hs ht in
+    block-ext (alpha (xorBlock s t)) (xorBlock (alpha s) (alpha t)) (alpha-block (xorBlock s t) hx) (xor-block (alpha s) (alpha t) ha hb)
+    (λ i h. word i h ∙ sym (getD-xor (alpha s) (alpha t) i h))
+  where
+    word : (i : ℕ) → i < 16 → getD (alpha (xorBlock s t)) i 0 ≡ bitXor (getD (alpha s) i 0) (getD (alpha t) i 0)
+    word i h = elim (decLt i 15) [
+      | yes p ↦ alpha-moves (xorBlock s t) (xor-block s t hs ht) i p ∙ getD-xor s t (suc i) (omega arith)
+          ∙ sym (ap₂ bitXor (alpha-moves s hs i p) (alpha-moves t ht i p))
+      | no q ↦ let e : i ≡ 15 = omega arith in
+          rw e
+          (alpha-new (xorBlock s t) (xor-block s t hs ht)
+          ∙ ap₂ alphaW (getD-xor s t 0 (lit< tt)) (getD-xor s t 5 (lit< tt))
+          ∙ pair-alphaW .keeps (getD s 0 0) (getD s 5 0) (getD t 0 0) (getD t 5 0) (hs .words 0) (hs .words 5) (ht .words 0) (ht .words 5)
+          ∙ sym (ap₂ bitXor (alpha-new s hs) (alpha-new t ht)))
+    ]
+
+pub beta-block : (s : List ℕ) → Block s → Block (beta s)
+unfolding beta
+beta-block s b = xor-block (alpha s) s (alpha-block s b) b
+
+pub gamma-block : (s : List ℕ) → Block s → Block (gamma s)
+unfolding gamma
+gamma-block s b =
+    let ha = alpha-block s b in
+    xor-block (xorBlock (alpha (alpha s)) (alpha s)) s (xor-block (alpha (alpha s)) (alpha s) (alpha-block (alpha s) ha) ha) b
+
+-- ---- back from alpha
+
+-- word 0 of the block before, rotated left by 53
+abbrev turned : List ℕ → ℕ
+turned s = bitXor (getD s 15 0) (shl 13 (getD s 4 0))
+
+module _ (s : List ℕ) (b : Block s) where
+  turned-lt : turned s < 2 ^ 64
+  turned-lt = xor-lt 64 (getD s 15 0) (shl 13 (getD s 4 0)) (b .words 15) (shl-lt 13 (getD s 4 0))
+
+  pub unAlpha-moves : (i : ℕ) → i < 15 → getD (unAlpha s) (suc i) 0 ≡ getD s i 0
+  unfolding unAlpha
+  unAlpha-moves i h = getD-take 15 s i 0 h
+
+  pub unAlpha-block : Block (unAlpha s)
+  unfolding unAlpha
+  unAlpha-block = block-of (unAlpha s) (simp length-take (omega arith)) word
+    where
+      word : (i : ℕ) → i < 16 → getD (unAlpha s) i 0 < 2 ^ 64
+      word zero h = rotR-lt 53 11 refl (turned s) turned-lt
+      word (suc i) h = rw (unAlpha-moves i (omega arith)) (b .words i)
+
+  pub alpha-redo : alpha (unAlpha s) ≡ s
+  unfolding unAlpha alphaW rotL
+  alpha-redo = block-ext (alpha (unAlpha s)) s (alpha-block (unAlpha s) unAlpha-block) b word
+    where
+      word : (i : ℕ) → i < 16 → getD (alpha (unAlpha s)) i 0 ≡ getD s i 0
+      word i h = elim (decLt i 15) [
+        | yes p ↦ alpha-moves (unAlpha s) unAlpha-block i p ∙ unAlpha-moves i p
+        | no q ↦ let e : i ≡ 15 = omega arith in
+            rw e
+            (alpha-new (unAlpha s) unAlpha-block
+            ∙ ap₂ (λ (x y : ℕ). bitXor x (shl 13 y)) (rotR-back 53 11 refl (turned s) turned-lt) (unAlpha-moves 4 (lit< tt))
+            ∙ xor-cancel-r (getD s 15 0) (shl 13 (getD s 4 0)))
+      ]
+
+pub alpha-undo : (s : List ℕ) → Block s → unAlpha (alpha s) ≡ s
+unfolding unAlpha alphaW rotL
+alpha-undo s b =
+    block-ext (unAlpha (alpha s)) s (unAlpha-block (alpha s) (alpha-block s b)) b word
+  where
+    word : (i : ℕ) → i < 16 → getD (unAlpha (alpha s)) i 0 ≡ getD s i 0
+    word zero h =
+        ap₂ (λ (x y : ℕ). rotR 53 (bitXor x (shl 13 y))) (alpha-new s b) (alpha-moves s b 4 (lit< tt))
+        ∙ ap (rotR 53) (xor-cancel-r (rotR 11 (getD s 0 0)) (shl 13 (getD s 5 0))) ∙ rotR-back 11 53 refl (getD s 0 0) (b .words 0)
+    word (suc i) h = unAlpha-moves (alpha s) (alpha-block s b) i (omega arith) ∙ alpha-moves s b i (omega arith)
+
+-- ---- the run of words
+
+-- word 0 of the block after n steps of alpha
+unfoldable pub run : List ℕ → ℕ → ℕ
+run s n = getD (times alpha n s) 0 0
+
+step-on : (n i : ℕ) → suc n + i ≡ n + suc i
+step-on n i = omega arith
+
+module _ (s : List ℕ) (b : Block s) where
+  pub times-block : (n : ℕ) → Block (times alpha n s)
+  unfolding times
+  times-block zero = b
+  times-block (suc n) = alpha-block (times alpha n s) (times-block n)
+
+  -- words n to n + 15 of the run are the block after n steps
+  pub window : (n i : ℕ) → i < 16 → getD (times alpha n s) i 0 ≡ run s (n + i)
+  unfolding run times
+  window n zero h = ap (run s) (sym (add-zero n))
+  window n (suc i) h =
+      sym (alpha-moves (times alpha n s) (times-block n) i (omega arith)) ∙ window (suc n) i (omega arith) ∙ ap (run s) (step-on n i)
+
+  pub run-lt : (n : ℕ) → run s n < 2 ^ 64
+  unfolding run
+  run-lt n = times-block n .words 0
+
+  -- word n + 16 of the run
+  pub run-new : (n : ℕ) → run s (n + 16) ≡ alphaW (run s n) (run s (n + 5))
+  unfolding run times
+  run-new n =
+      ap (run s) (sym (step-on n 15)) ∙ sym (window (suc n) 15 (lit< tt)) ∙ alpha-new (times alpha n s) (times-block n)
+      ∙ ap (alphaW (run s n)) (window n 5 (lit< tt))
+
+  pub run-at : (i : ℕ) → i < 16 → getD s i 0 ≡ run s i
+  unfolding times
+  run-at i h = window 0 i h ∙ ap (run s) (zero-add i)
+
+  pub beta-at : (i : ℕ) → i < 16 → getD (beta s) i 0 ≡ bitXor (run s (i + 1)) (run s i)
+  unfolding beta times
+  beta-at i h = getD-xor (alpha s) s i h ∙ ap₂ bitXor (window 1 i h ∙ ap (run s) (add-comm 1 i)) (run-at i h)
+
+  pub gamma-at : (i : ℕ) → i < 16 → getD (gamma s) i 0 ≡ bitXor (bitXor (run s (i + 2)) (run s (i + 1))) (run s i)
+  unfolding gamma times
+  gamma-at i h =
+      getD-xor (xorBlock (alpha (alpha s)) (alpha s)) s i h
+      ∙ ap₂ bitXor
+      (getD-xor (alpha (alpha s)) (alpha s) i h ∙ ap₂ bitXor (window 2 i h ∙ ap (run s) (add-comm 2 i)) (window 1 i h ∙ ap (run s) (add-comm 1 i)))
+      (run-at i h)
+
+-- sixteen words of a sequence that goes on as alpha does are the start of its run
+pub run-of : (u : ℕ → ℕ) → Block (tab u 16) → (k : ℕ) → k < 12 → ((n : ℕ) → n < k → alphaW (u n) (u (n + 5)) ≡ u (n + 16))
+    → (i : ℕ) → i < 16 + k → run (tab u 16) i ≡ u i
+run-of u b k hk h i p = elim (decLt i 16) [
+  | yes q ↦ low i q
+  | no q ↦ let n = i - 16 in
+      let e : n + 16 ≡ i = omega arith in
+      ap (run (tab u 16)) (sym e) ∙ run-new (tab u 16) b n ∙ ap₂ alphaW (low n (omega arith)) (low (n + 5) (omega arith))
+      ∙ h n (omega arith) ∙ ap u e
+]
+  where
+    low : (i : ℕ) → i < 16 → run (tab u 16) i ≡ u i
+    low i q = sym (run-at (tab u 16) b i q) ∙ getD-tab u 16 i q

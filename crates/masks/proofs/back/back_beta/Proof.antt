@@ -1,0 +1,56 @@
+-- Assumes nothing.
+use Rattle.masks.specs.Steps.{beta}
+use Rattle.masks.specs.Tables.{betaTable}
+use Rattle.masks.specs.BackSteps.{betaWord, unBeta}
+use Rattle.masks.proofs.Laws.{back-meets, beta-step}
+use Rattle.masks.proofs.Arrays.{array-block, beta-side-is}
+use borrow.Author.Needs.{needs}
+use Rattle.masks.proofs.back.back_beta.Statement.{statement}
+use Rattle.masks.proofs.back.back_beta.Tie as tie
+
+beta-run-requires : tie.Need-beta-run-requires
+beta-run-requires c κs = search needs
+
+array-read-e : tie.Need-array-read-e
+array-read-e c = search needs
+
+array-read-e-2 : tie.Need-array-read-e-2
+array-read-e-2 c = search needs
+
+array-read-shift-left : tie.Need-array-read-shift-left
+array-read-shift-left c = search needs
+
+shift-left-requires : tie.Need-shift-left-requires
+shift-left-requires c κs = search needs
+
+slice-aggregate-choose : tie.Need-slice-aggregate-choose
+slice-aggregate-choose c = search needs
+
+choose-requires : tie.Need-choose-requires
+choose-requires c κs = search needs
+
+beta-run-requires-2 : tie.Need-beta-run-requires-2
+beta-run-requires-2 c κs = search needs
+
+returns : tie.Need-returns
+unfolding unBeta betaWord betaTable
+returns c =
+    let start = c .before .before .before .before .before in
+    let s = start .args .t1 in
+    let side = beta-side-is s _ (c .before .before .before .before .beta-run .ensures) in
+    back-meets beta unBeta beta-step s _ (array-block _ _ (start .good .0))
+    (rw (c .beta-run2 .ensures, c .before .choose .ensures, c .before .before .before .shift-left .ensures, side))
+
+pub back-beta-spec : {M : Type 1} → statement M
+back-beta-spec =
+    tie.close
+    (tie.spec
+    beta-run-requires
+    array-read-e
+    array-read-e-2
+    array-read-shift-left
+    shift-left-requires
+    slice-aggregate-choose
+    choose-requires
+    beta-run-requires-2
+    returns)

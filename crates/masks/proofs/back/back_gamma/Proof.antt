@@ -1,0 +1,84 @@
+-- Assumes nothing.
+use Rattle.masks.specs.Steps.{gamma}
+use Rattle.masks.specs.Tables.{gammaTable}
+use Rattle.masks.specs.BackSteps.{unGamma}
+use Rattle.masks.proofs.Laws.{back-meets, gamma-step}
+use Rattle.masks.proofs.Arrays.{array-block, gamma-side-16, gamma-side-17}
+use borrow.Author.Needs.{needs}
+use Rattle.masks.proofs.back.back_gamma.Statement.{statement}
+use Rattle.masks.proofs.back.back_gamma.Tie as tie
+
+gamma-run-requires : tie.Need-gamma-run-requires
+gamma-run-requires c κs = search needs
+
+array-read-u : tie.Need-array-read-u
+array-read-u c = search needs
+
+array-read-u-2 : tie.Need-array-read-u-2
+array-read-u-2 c = search needs
+
+array-read-u-3 : tie.Need-array-read-u-3
+array-read-u-3 c = search needs
+
+array-read-v : tie.Need-array-read-v
+array-read-v c = search needs
+
+array-read-v-2 : tie.Need-array-read-v-2
+array-read-v-2 c = search needs
+
+array-read-shift-left : tie.Need-array-read-shift-left
+array-read-shift-left c = search needs
+
+shift-left-requires : tie.Need-shift-left-requires
+shift-left-requires c κs = search needs
+
+array-read-shift-left-2 : tie.Need-array-read-shift-left-2
+array-read-shift-left-2 c = search needs
+
+shift-left-requires-2 : tie.Need-shift-left-requires-2
+shift-left-requires-2 c κs = search needs
+
+gamma-word-requires : tie.Need-gamma-word-requires
+gamma-word-requires c κs = search needs
+
+gamma-word-requires-2 : tie.Need-gamma-word-requires-2
+gamma-word-requires-2 c κs = search needs
+
+gamma-run-requires-2 : tie.Need-gamma-run-requires-2
+gamma-run-requires-2 c κs = search needs
+
+returns : tie.Need-returns
+unfolding unGamma gammaTable
+returns c =
+    let start = c .before .before .before .before .before .before .before .before .before in
+    let run = c .before .before .before .before .before .before .before .before .gamma-run .ensures in
+    let s = start .args .t1 in
+    back-meets gamma unGamma gamma-step s _ (array-block _ _ (start .good .0))
+    (rw (
+      c .gamma-run2 .ensures,
+      c .before .gamma-word2 .ensures,
+      c .before .before .before .gamma-word .ensures,
+      c .before .before .before .before .before .before .shift-left2 .ensures,
+      c .before .before .before .before .before .before .before .shift-left .ensures,
+      gamma-side-16 s _ run,
+      gamma-side-17 s _ run,
+    ))
+
+pub back-gamma-spec : {M : Type 1} → statement M
+back-gamma-spec =
+    tie.close
+    (tie.spec
+    gamma-run-requires
+    array-read-u
+    array-read-u-2
+    array-read-u-3
+    array-read-v
+    array-read-v-2
+    array-read-shift-left
+    shift-left-requires
+    array-read-shift-left-2
+    shift-left-requires-2
+    gamma-word-requires
+    gamma-word-requires-2
+    gamma-run-requires-2
+    returns)

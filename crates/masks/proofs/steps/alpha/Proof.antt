@@ -1,0 +1,96 @@
+-- Assumes nothing.
+use Rattle.words.specs.Block.{Block}
+use Rattle.masks.specs.Steps.{alphaW}
+use Rattle.masks.proofs.Arrays.{array-block, alpha-words}
+use borrow.Author.Needs.{needs}
+use Rattle.masks.proofs.steps.alpha.Statement.{statement}
+use Rattle.masks.proofs.steps.alpha.Tie as tie
+
+array-read-rotate-left : tie.Need-array-read-rotate-left
+array-read-rotate-left c = search needs
+
+rotate-left-requires : tie.Need-rotate-left-requires
+rotate-left-requires c κs = search needs
+
+array-read-shift-left : tie.Need-array-read-shift-left
+array-read-shift-left c = search needs
+
+shift-left-requires : tie.Need-shift-left-requires
+shift-left-requires c κs = search needs
+
+array-read-t4 : tie.Need-array-read-t4
+array-read-t4 c = search needs
+
+array-read-t11 : tie.Need-array-read-t11
+array-read-t11 c = search needs
+
+array-read-t8 : tie.Need-array-read-t8
+array-read-t8 c = search needs
+
+array-read-t7 : tie.Need-array-read-t7
+array-read-t7 c = search needs
+
+array-read-t22 : tie.Need-array-read-t22
+array-read-t22 c = search needs
+
+array-read-t25 : tie.Need-array-read-t25
+array-read-t25 c = search needs
+
+array-read-t28 : tie.Need-array-read-t28
+array-read-t28 c = search needs
+
+array-read-t31 : tie.Need-array-read-t31
+array-read-t31 c = search needs
+
+array-read-t34 : tie.Need-array-read-t34
+array-read-t34 c = search needs
+
+array-read-t37 : tie.Need-array-read-t37
+array-read-t37 c = search needs
+
+array-read-t40 : tie.Need-array-read-t40
+array-read-t40 c = search needs
+
+array-read-t43 : tie.Need-array-read-t43
+array-read-t43 c = search needs
+
+array-read-t46 : tie.Need-array-read-t46
+array-read-t46 c = search needs
+
+array-read-t49 : tie.Need-array-read-t49
+array-read-t49 c = search needs
+
+array-read-t52 : tie.Need-array-read-t52
+array-read-t52 c = search needs
+
+returns : tie.Need-returns
+unfolding alphaW
+returns c =
+    let s = c .before .before .args .t1 in
+    let h : Block s = array-block _ _ (c .before .before .good .0) in
+    rw (alpha-words s h, c .shift-left .ensures, c .before .rotate-left .ensures)
+
+pub alpha-spec : {M : Type 1} → statement M
+alpha-spec =
+    tie.close
+    (tie.spec
+    array-read-rotate-left
+    rotate-left-requires
+    array-read-shift-left
+    shift-left-requires
+    array-read-t4
+    array-read-t11
+    array-read-t8
+    array-read-t7
+    array-read-t22
+    array-read-t25
+    array-read-t28
+    array-read-t31
+    array-read-t34
+    array-read-t37
+    array-read-t40
+    array-read-t43
+    array-read-t46
+    array-read-t49
+    array-read-t52
+    returns)

@@ -1,0 +1,53 @@
+-- The three back steps (document 01, "Masks"). A reader need not believe the ways of solving for words here, or the numbers of their
+-- tables: theorem back-steps (proofs/Laws) shows each value to be the only block whose forward step gives the block at hand.
+-- Assumes nothing.
+use mathlib.Core.List.{List, [], _∷_}
+use Prim.Native.Nat.{ℕ, zero, suc, _+_, _*_, _/_, _%_, _^_}
+use lib.ListN.{getD, take}
+use lib.Bits.{bitXor}
+use Rattle.words.specs.Sequence.{tab}
+use Rattle.words.specs.Word.{rotR, shl}
+use Rattle.masks.specs.Tables.{betaTable, gammaTable}
+
+-- back from alpha is direct
+unfoldable pub unAlpha : List ℕ → List ℕ
+unAlpha s = rotR 53 (bitXor (getD s 15 0) (shl 13 (getD s 4 0))) ∷ take 15 s
+
+-- the words of a table at places at, at + step, .. that the lowest n bits of e choose, exclusive or
+unfoldable pub chosen : List ℕ → ℕ → ℕ → ℕ → ℕ → ℕ
+chosen t at step e zero = 0
+chosen t at step e (suc n) = bitXor (getD t (at + step * n) 0 * (e / 2 ^ n % 2)) (chosen t at step e n)
+
+-- word i of the run from x on whose neighbours differ by the words of b
+unfoldable pub betaRun : List ℕ → ℕ → ℕ → ℕ
+betaRun b x zero = x
+betaRun b x (suc i) = bitXor (betaRun b x i) (getD b i 0)
+
+-- what the first word solves, and the word that does
+unfoldable pub betaSide : List ℕ → ℕ
+betaSide b = bitXor (betaRun b 0 16) (shl 13 (betaRun b 0 5))
+
+unfoldable pub betaWord : ℕ → ℕ
+betaWord e = chosen betaTable 0 1 e 64
+
+-- the backward beta step solves for one word
+unfoldable pub unBeta : List ℕ → List ℕ
+unBeta b = tab (betaRun b (betaWord (betaSide b))) 16
+
+-- word i of the run from x, y on in which three neighbours, exclusive or, give the words of b
+unfoldable pub gammaRun : List ℕ → ℕ → ℕ → ℕ → ℕ
+gammaRun b x y zero = x
+gammaRun b x y (suc zero) = y
+gammaRun b x y (suc (suc i)) = bitXor (bitXor (gammaRun b x y (suc i)) (gammaRun b x y i)) (getD b i 0)
+
+-- what the first two words solve: n is 16 for the one, 17 for the other
+unfoldable pub gammaSide : List ℕ → ℕ → ℕ → ℕ
+gammaSide b n m = bitXor (gammaRun b 0 0 n) (shl 13 (gammaRun b 0 0 m))
+
+-- the first of the two words for at = 0, the second for at = 1
+unfoldable pub gammaWord : List ℕ → ℕ → ℕ → ℕ → ℕ
+gammaWord t at e f = bitXor (chosen t at 2 e 64) (chosen t (at + 128) 2 f 64)
+
+-- the backward gamma step solves for two words
+unfoldable pub unGamma : List ℕ → List ℕ
+unGamma b = tab (gammaRun b (gammaWord gammaTable 0 (gammaSide b 16 5) (gammaSide b 17 6)) (gammaWord gammaTable 1 (gammaSide b 16 5) (gammaSide b 17 6))) 16
