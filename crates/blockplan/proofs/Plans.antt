@@ -1,0 +1,118 @@
+-- Laws of sums of blocks, of the comparison of bytes, and of ciphered bytes. Assumes nothing.
+use mathlib.Core.Path.{_≡_, refl, sym, ap, ap₂, _∙_}
+use mathlib.Core.Bool.{Bool, true, false, cond, _&&_, and-true, false≢true}
+use mathlib.Core.List.{List, [], _∷_, _++_}
+use Prim.Native.Nat.{ℕ, zero, suc, _+_, _*_, _/_, _≤_, _<_}
+use native.Mathlib.Nat.{add-zero, mod-eq-of-lt}
+use native.Mathlib.Numerals.{add-one}
+use native.Mathlib.Omega.{arith}
+use native.Mathlib.Decide.{ℕ-discrete}
+use lib.Dec.{eqb, lit<}
+use lib.Bits.{bitOr, bitXor, bitAnd, xor-self, and-mask, and-zero-r, and-le-r, or-add-and}
+use lib.ListN.{length, getD, take, drop, take-append-drop}
+use lib.Seq.{take-suc, length-take-le, getD-append-add, getD-drop}
+use mir.Val.{boolByte}
+use borrow.Author.Tests.{eq-eqb, ne-eqb, eqb-true}
+use Rattle.words.specs.Sequence.{fold, tab, zeros}
+use Rattle.words.specs.Block.{Block, xorBlock, zeroBlock}
+use Rattle.words.proofs.Xor.{xor-cancel-r}
+use Rattle.words.proofs.Lists.{length-tab, front}
+use Rattle.words.proofs.Blocks.{xor-block, zero-block}
+use Rattle.blockplan.specs.Plan.{whole, left, blockAt, xorOver, same}
+
+-- ---- sums
+
+pub summed : (f : ℕ → List ℕ) (i : ℕ) (sum next : List ℕ) → sum ≡ xorOver f i → next ≡ xorBlock sum (f i) → next ≡ xorOver f (i + 1)
+unfolding xorOver fold
+summed f i sum next e q = rw (add-one, q, e)
+
+pub xorOver-block : (f : ℕ → List ℕ) (n : ℕ) → ((i : ℕ) → Block (f i)) → Block (xorOver f n)
+unfolding xorOver fold
+xorOver-block f zero h = zero-block
+xorOver-block f (suc n) h = xor-block (xorOver f n) (f n) (xorOver-block f n h) (h n)
+
+pub xorOver-ext : (f g : ℕ → List ℕ) (n : ℕ) → ((i : ℕ) → i < n → f i ≡ g i) → xorOver f n ≡ xorOver g n
+unfolding xorOver fold
+xorOver-ext f g zero h = refl
+xorOver-ext f g (suc n) h = ap₂ xorBlock (xorOver-ext f g n (λ i p. h i (omega arith))) (h n (omega arith))
+
+-- the number of whole blocks, where that many were taken off and fewer than 128 bytes are left
+pub whole-is : (s : List ℕ) (i r : ℕ) → 128 * i + r ≡ length s → r < 128 → i ≡ whole s
+unfolding whole
+whole-is s i r e h = omega arith
+
+-- ---- bytes kept or cleared
+
+-- byte j where it is kept, else zero
+unfoldable pub keptAt : Bool → List ℕ → ℕ → ℕ
+keptAt right s j = cond right (getD s j 0) 0
+
+-- all bits, or none, as a mask
+pub mask-lt : (right : Bool) → 255 * boolByte right < 256
+mask-lt true = lit< tt
+mask-lt false = lit< tt
+
+pub masked : (right : Bool) (x : ℕ) → x < 256 → bitAnd x (255 * boolByte right) ≡ cond right x 0
+masked true x h = and-mask x 8 ∙ mod-eq-of-lt h
+masked false x h = and-zero-r x
+
+-- what a list filled from the front still holds at the next place
+pub untouched : (f : ℕ → ℕ) (i : ℕ) (old xs : List ℕ) → xs ≡ tab f i ++ drop i old → getD xs i 0 ≡ getD old i 0
+untouched f i old xs e =
+    let n : length (tab f i) + 0 ≡ i = add-zero (length (tab f i)) ∙ length-tab f i in
+    ap (λ (l : List ℕ). getD l i 0) e
+    ∙ ap (λ (k : ℕ). getD (tab f i ++ drop i old) k 0) (sym n) ∙ getD-append-add (tab f i) (drop i old) 0 0
+    ∙ getD-drop i old 0 0 ∙ ap (λ (k : ℕ). getD old k 0) (add-zero i)
+
+pub kept : (right : Bool) (n : ℕ) (s : List ℕ) → n ≤ length s → tab (keptAt right s) n ++ drop n s ≡ cond right s (zeros n ++ drop n s)
+unfolding keptAt zeros
+kept true n s h = ap (λ (l : List ℕ). l ++ drop n s) (sym (front s n h)) ∙ take-append-drop n s
+kept false n s h = refl
+
+-- ---- bytes compared
+
+and-assoc : (a b c : Bool) → ((a && b) && c) ≡ (a && (b && c))
+and-assoc true b c = refl
+and-assoc false b c = refl
+
+both : (a b : Bool) → (a && b) ≡ true → (a ≡ true) × (b ≡ true)
+both true b e = (refl, e)
+both false b e = absurd (false≢true e)
+
+xor-none : (x y : ℕ) → bitXor x y ≡ 0 → x ≡ y
+xor-none x y e = sym (xor-cancel-r x y) ∙ ap (λ (z : ℕ). bitXor z y) e
+
+or-none : (d x y : ℕ) → eqb (bitOr d (bitXor x y)) 0 ≡ (eqb d 0 && eqb x y)
+or-none d x y = elim (ℕ-discrete d 0) [
+  | yes p ↦ elim (ℕ-discrete x y) [
+    | yes q ↦ rw (p, q, xor-self, eq-eqb y y refl)
+    | no q ↦ rw (p, ne-eqb x y q) (ne-eqb (bitXor x y) 0 (λ e. q (xor-none x y e)))
+  ]
+  | no p ↦ rw (ne-eqb d 0 p) (ne-eqb (bitOr d (bitXor x y)) 0 (λ e. p (omega (arith, or-add-and d (bitXor x y), and-le-r d (bitXor x y)))))
+]
+
+same-snoc : (a b : List ℕ) (x y : ℕ) → length a ≡ length b → same (a ++ (x ∷ [])) (b ++ (y ∷ [])) ≡ (same a b && eqb x y)
+unfolding same
+same-snoc [] [] x y e = and-true (eqb x y)
+same-snoc [] (c ∷ b) x y e = absurd (omega arith)
+same-snoc (c ∷ a) [] x y e = absurd (omega arith)
+same-snoc (c ∷ a) (d ∷ b) x y e = rw (same-snoc a b x y (omega arith)) (sym (and-assoc (eqb c d) (same a b) (eqb x y)))
+
+-- one more byte of each
+pub compared : (a b : List ℕ) (i d : ℕ) → i < length a → i < length b → eqb d 0 ≡ same (take i a) (take i b)
+    → eqb (bitOr d (bitXor (getD a i 0) (getD b i 0))) 0 ≡ same (take (i + 1) a) (take (i + 1) b)
+compared a b i d ha hb e =
+    or-none d (getD a i 0) (getD b i 0) ∙ ap (λ (t : Bool). t && eqb (getD a i 0) (getD b i 0)) e
+    ∙ sym (rw (add-one, take-suc a i 0 ha, take-suc b i 0 hb) (same-snoc (take i a) (take i b) (getD a i 0) (getD b i 0) (length-take-le i a (omega arith) ∙ sym (length-take-le i b (omega arith)))))
+
+pub same-true : (a b : List ℕ) → same a b ≡ true → a ≡ b
+unfolding same
+same-true [] [] e = refl
+same-true [] (y ∷ ys) e = absurd (false≢true e)
+same-true (x ∷ xs) [] e = absurd (false≢true e)
+same-true (x ∷ xs) (y ∷ ys) e = ap₂ (λ (a : ℕ) (l : List ℕ). a ∷ l) (eqb-true x y (both (eqb x y) (same xs ys) e .0)) (same-true xs ys (both (eqb x y) (same xs ys) e .1))
+
+pub same-refl : (a : List ℕ) → same a a ≡ true
+unfolding same
+same-refl [] = refl
+same-refl (x ∷ xs) = rw (eq-eqb x x refl, same-refl xs)

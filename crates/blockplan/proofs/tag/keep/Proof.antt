@@ -1,0 +1,86 @@
+-- The loop's invariant: the first i bytes are masked, the others are as they were. Assumes nothing.
+use mathlib.Core.Path.{_≡_, refl, sym, ap, _∙_}
+use mathlib.Core.List.{List, [], _∷_, _++_}
+use Prim.Native.Nat.{ℕ, _+_, _*_, _-_, _≤_, _<_}
+use native.Mathlib.Omega.{arith}
+use lib.ListN.{length, getD, take, drop, set, length-set, length-drop}
+use denote.Ref.{now}
+use mathlib.Core.Bool.{cond}
+use mir.Val.{boolByte}
+use Rattle.words.specs.Sequence.{tab, zeros}
+use Rattle.words.proofs.Lists.{placed}
+use Rattle.blockplan.proofs.Plans.{keptAt, mask-lt, masked, untouched, kept}
+use borrow.Author.Needs.{needs}
+use Rattle.blockplan.proofs.tag.keep.Statement.{statement}
+use Rattle.blockplan.proofs.tag.keep.Tie as tie
+
+abbrev Inv-loop : tie.InvT-loop
+Inv-loop out₀ n right mask i₀ out i = (i ≤ n) × ((length out ≡ length out₀) × ((mask ≡ 255 * boolByte right) × (out ≡ tab (keptAt right out₀) i ++ drop i out₀)))
+
+abbrev μ-loop : tie.MeasureT-loop
+μ-loop out₀ n right mask i₀ out i = n - i
+
+cast-mask : tie.Need-cast-mask Inv-loop μ-loop
+cast-mask c = search needs
+
+mul-mask : tie.Need-mul-mask Inv-loop μ-loop
+mul-mask c = record { fits = mask-lt (c .args .right) }
+
+loop-holds : tie.Need-loop-holds Inv-loop μ-loop
+unfolding tab
+loop-holds c = (search needs, (refl, (refl, refl)))
+
+slice-read-out : tie.Need-slice-read-out Inv-loop μ-loop
+slice-read-out c = search needs
+
+slice-write-out : tie.Need-slice-write-out Inv-loop μ-loop
+slice-write-out c = search needs
+
+add-i : tie.Need-add-i Inv-loop μ-loop
+add-i c = search needs
+
+loop-less : tie.Need-loop-less Inv-loop μ-loop
+loop-less c = search needs
+
+loop-again : tie.Need-loop-again Inv-loop μ-loop
+unfolding keptAt
+loop-again c =
+    let at = c .before .before .loop in
+    let start = c .before .before .before in
+    let x = getD (at .out) (at .i) 0 in (
+      omega arith,
+      (
+        simp length-set (at .inv .1 .0),
+        (
+          refl,
+          placed _ (at .i) _ (at .out) _ (omega arith) (at .inv .1 .1 .1)
+              (masked (start .args .right) x (c .slice-known .given (at .i) .fits) ∙ ap (λ (n : ℕ). cond (start .args .right) n 0) (untouched _ (at .i) _ (at .out) (at .inv .1 .1 .1))),
+        ),
+      ),
+    )
+
+same-length : tie.Need-same-length Inv-loop μ-loop
+same-length c = search needs
+
+returns : tie.Need-returns Inv-loop μ-loop
+returns c =
+    let at = c .before .loop in
+    let e : at .i ≡ c .before .before .args .n = omega arith in
+    rw e at (at .inv .1 .1 .1) ∙ kept (c .before .before .args .right) _ _ (c .before .before .pre)
+
+pub keep-spec : {M : Type 1} → statement M
+keep-spec =
+    tie.close
+    (tie.spec
+    Inv-loop
+    μ-loop
+    cast-mask
+    mul-mask
+    loop-holds
+    slice-read-out
+    slice-write-out
+    add-i
+    loop-less
+    loop-again
+    same-length
+    returns)

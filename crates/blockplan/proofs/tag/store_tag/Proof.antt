@@ -1,0 +1,93 @@
+-- The loop's invariant: the bytes of the first i words are in, the others are as they were. Assumes nothing.
+use mathlib.Core.Path.{_≡_, refl, sym, ap, _∙_}
+use mathlib.Core.List.{List, [], _∷_, _++_}
+use Prim.Native.Nat.{ℕ, _+_, _*_, _-_, _≤_, _<_}
+use native.Mathlib.Omega.{arith}
+use lib.ListN.{length, getD, take, drop, set, length-set, length-drop}
+use denote.Ref.{now}
+use Rattle.words.specs.Sequence.{cat}
+use Rattle.words.specs.Block.{wordBytes, bytesOf}
+use Rattle.words.proofs.Lists.{appended, tailPart, take-cat}
+use Rattle.words.proofs.Blocks.{length-wordBytes}
+use Rattle.blockplan.specs.Plan.{tagBytes}
+use borrow.Author.Needs.{needs}
+use Rattle.blockplan.proofs.tag.store_tag.Statement.{statement}
+use Rattle.blockplan.proofs.tag.store_tag.Tie as tie
+
+abbrev Inv-loop : tie.InvT-loop
+Inv-loop out₀ b i₀ out i = (i ≤ 4) × ((length out ≡ length out₀) × (out ≡ cat (wordBytes b) i ++ drop (8 * i) out₀))
+
+abbrev μ-loop : tie.MeasureT-loop
+μ-loop out₀ b i₀ out i = 4 - i
+
+loop-holds : tie.Need-loop-holds Inv-loop μ-loop
+unfolding cat
+loop-holds c = (search needs, (refl, refl))
+
+mul-at : tie.Need-mul-at Inv-loop μ-loop
+mul-at c = search needs
+
+mul-store-word : tie.Need-mul-store-word Inv-loop μ-loop
+mul-store-word c = search needs
+
+array-read-store-word : tie.Need-array-read-store-word Inv-loop μ-loop
+array-read-store-word c = search needs
+
+sub-store-word : tie.Need-sub-store-word Inv-loop μ-loop
+sub-store-word c = search needs
+
+part-store-word-start : tie.Need-part-store-word-start Inv-loop μ-loop
+part-store-word-start c = search needs
+
+part-store-word-end : tie.Need-part-store-word-end Inv-loop μ-loop
+part-store-word-end c = search needs
+
+store-word-requires : tie.Need-store-word-requires Inv-loop μ-loop
+store-word-requires c κs = rw tailPart (simp length-drop (omega arith))
+
+add-i : tie.Need-add-i Inv-loop μ-loop
+add-i c = search needs
+
+loop-less : tie.Need-loop-less Inv-loop μ-loop
+loop-less c = search needs
+
+loop-again : tie.Need-loop-again Inv-loop μ-loop
+unfolding wordBytes
+loop-again c =
+    let at = c .before .before .before .before .before .loop in (
+      omega arith,
+      (
+        c .before .out .given .1 ∙ at .inv .1 .0,
+        appended _ 8 (at .i) _ _ (c .before .before .store-word .last .1 .0) (length-wordBytes (c .before .before .before .before .before .before .before .args .t1)) (omega arith) (at .inv .1 .1) (c .before .before .store-word .ensures),
+      ),
+    )
+
+same-length : tie.Need-same-length Inv-loop μ-loop
+same-length c = search needs
+
+returns : tie.Need-returns Inv-loop μ-loop
+unfolding tagBytes bytesOf
+returns c =
+    let e : c .before .loop .i ≡ 4 = omega arith in
+    let b = c .before .before .before .args .t1 in
+    rw e at (c .before .loop .inv .1 .1) ∙ ap (λ (l : List ℕ). l ++ drop 32 (now (c .before .before .before .args .out))) (sym (take-cat (wordBytes b) 8 16 4 (length-wordBytes b) (omega arith)))
+
+pub store-tag-spec : {M : Type 1} → statement M
+store-tag-spec =
+    tie.close
+    (tie.spec
+    Inv-loop
+    μ-loop
+    loop-holds
+    mul-at
+    mul-store-word
+    array-read-store-word
+    sub-store-word
+    part-store-word-start
+    part-store-word-end
+    store-word-requires
+    add-i
+    loop-less
+    loop-again
+    same-length
+    returns)

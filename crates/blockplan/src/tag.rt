@@ -1,0 +1,53 @@
+// The tag: written, compared, and what follows from the comparison.
+use words::block::store;
+use words::word::store_word;
+ghost use mathlib.Core.Path.{_≡_};
+ghost use mathlib.Core.Bool.{cond, not};
+ghost use mathlib.Core.List.{_++_};
+ghost use Prim.Native.Nat.{_≤_};
+ghost use lib.ListN.{length, drop, take};
+ghost use Rattle.words.specs.Sequence.{zeros};
+ghost use Rattle.blockplan.specs.Plan.{tagBytes, same};
+
+// The first 32 bytes of a block, to the front of the output.
+pub fn store_tag(b: [u64; 16], out: &mut [u8])
+    requires { ⌜ 32 ≤ length (now out) ⌝ }
+    ensures { λ _. ⌜ now (out .exit) ≡ tagBytes b ++ drop 32 (now (out .entry)) ⌝ }
+{
+    let mut i: usize = 0;
+    while i < 4 {
+        let at = 8 * i;
+        store_word(b[i], &mut out[at..]);
+        i += 1;
+    }
+}
+
+// All 32 bytes are looked at, whether or not an early one differs.
+pub fn same_tag(b: [u64; 16], tag: &[u8]) -> bool
+    requires { ⌜ length (now tag) ≡ 32 ⌝ }
+    ensures { λ r. ⌜ r ≡ same (tagBytes b) (now (tag .entry)) ⌝ }
+{
+    let mut bytes = [0u8; 128];
+    store(b, &mut bytes);
+    let mut differ: u8 = 0;
+    let mut i: usize = 0;
+    while i < 32 {
+        differ = differ | (bytes[i] ^ tag[i]);
+        i += 1;
+    }
+    differ == 0
+}
+
+// The first n bytes stay where the tag was right and become zero where it was not, by the same
+// steps in both cases.
+pub fn keep(out: &mut [u8], n: usize, right: bool)
+    requires { ⌜ n ≤ length (now out) ⌝ }
+    ensures { λ _. ⌜ now (out .exit) ≡ cond right (now (out .entry)) (zeros n ++ drop n (now (out .entry))) ⌝ }
+{
+    let mask = 255 * (right as u8);
+    let mut i: usize = 0;
+    while i < n {
+        out[i] = out[i] & mask;
+        i += 1;
+    }
+}

@@ -1,0 +1,79 @@
+-- Laws of the masks (i, j, k), of E and of D. Assumes nothing.
+use mathlib.Core.Path.{_≡_, refl, sym, ap, ap₂, _∙_}
+use mathlib.Core.List.{List}
+use Prim.Native.Nat.{ℕ, zero, suc, _+_}
+use native.Mathlib.Numerals.{add-one}
+use Rattle.words.specs.Sequence.{times}
+use Rattle.words.specs.Block.{Block, xorBlock}
+use Rattle.words.proofs.Blocks.{xor-block, xorBlock-cancel}
+use Rattle.words.proofs.Times.{times-keeps, times-commute}
+use Rattle.permutation.specs.Permutation.{perm, unPerm}
+use Rattle.permutation.proofs.Undone.{perm-block, unPerm-block, unPerm-perm, perm-unPerm}
+use Rattle.masks.specs.Steps.{alpha, beta, gamma}
+use Rattle.masks.proofs.Laws.{alpha-step, beta-step, gamma-step, alpha-beta, alpha-gamma}
+use Rattle.mem.specs.Mem.{maskAt, under, unUnder, encipher, decipher}
+
+-- ---- masks
+
+pub mask-block : (start : List ℕ) → Block start → (i j k : ℕ) → Block (maskAt start i j k)
+unfolding maskAt
+mask-block start b i j k =
+    times-keeps Block gamma (gamma-step .on) k (times beta j (times alpha i start))
+    (times-keeps Block beta (beta-step .on) j (times alpha i start) (times-keeps Block alpha (alpha-step .on) i start b))
+
+-- alpha steps may come last: the mask (i, j, k) is reached from (0, j, k) by i of them
+pub mask-alpha : (start : List ℕ) → Block start → (i j k : ℕ) → maskAt start i j k ≡ times alpha i (maskAt start 0 j k)
+unfolding maskAt times
+mask-alpha start b zero j k = refl
+mask-alpha start b (suc i) j k =
+    let one = times alpha i start in
+    let one-block = times-keeps Block alpha (alpha-step .on) i start b in
+    ap (times gamma k) (sym (times-commute Block beta (beta-step .on) alpha alpha-beta j one one-block))
+    ∙ sym (times-commute Block gamma (gamma-step .on) alpha alpha-gamma k (times beta j one) (times-keeps Block beta (beta-step .on) j one one-block))
+    ∙ ap alpha (mask-alpha start b i j k)
+
+-- ---- P under a mask
+
+module _ (n : ℕ) (mask block : List ℕ) (m : Block mask) (b : Block block) where
+  pub under-block : Block (under n mask block)
+  unfolding under
+  under-block = xor-block (perm n (xorBlock block mask)) mask (perm-block n (xorBlock block mask) (xor-block block mask b m)) m
+
+  pub unUnder-block : Block (unUnder n mask block)
+  unfolding unUnder
+  unUnder-block = xor-block (unPerm n (xorBlock block mask)) mask (unPerm-block n (xorBlock block mask) (xor-block block mask b m)) m
+
+  pub unUnder-under : unUnder n mask (under n mask block) ≡ block
+  unfolding under unUnder
+  unUnder-under =
+      let inner = xor-block block mask b m in
+      ap (λ (x : List ℕ). xorBlock (unPerm n x) mask) (xorBlock-cancel (perm n (xorBlock block mask)) mask (perm-block n (xorBlock block mask) inner))
+      ∙ ap (λ (x : List ℕ). xorBlock x mask) (unPerm-perm n (xorBlock block mask) inner)
+      ∙ xorBlock-cancel block mask b
+
+  pub under-unUnder : under n mask (unUnder n mask block) ≡ block
+  unfolding under unUnder
+  under-unUnder =
+      let inner = xor-block block mask b m in
+      ap (λ (x : List ℕ). xorBlock (perm n x) mask) (xorBlock-cancel (unPerm n (xorBlock block mask)) mask (unPerm-block n (xorBlock block mask) inner))
+      ∙ ap (λ (x : List ℕ). xorBlock x mask) (perm-unPerm n (xorBlock block mask) inner)
+      ∙ xorBlock-cancel block mask b
+
+-- ---- E and D
+
+module _ (n : ℕ) (start block : List ℕ) (l : Block start) (b : Block block) (i j k : ℕ) where
+  pub encipher-block : Block (encipher n start i j k block)
+  unfolding encipher
+  encipher-block = under-block n (maskAt start i j k) block (mask-block start l i j k) b
+
+  pub decipher-block : Block (decipher n start i j k block)
+  unfolding decipher
+  decipher-block = unUnder-block n (maskAt start i j k) block (mask-block start l i j k) b
+
+  pub decipher-encipher : decipher n start i j k (encipher n start i j k block) ≡ block
+  unfolding encipher decipher
+  decipher-encipher = unUnder-under n (maskAt start i j k) block (mask-block start l i j k) b
+
+  pub encipher-decipher : encipher n start i j k (decipher n start i j k block) ≡ block
+  unfolding encipher decipher
+  encipher-decipher = under-unUnder n (maskAt start i j k) block (mask-block start l i j k) b

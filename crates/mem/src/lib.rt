@@ -1,0 +1,3 @@
+// The masked Even-Mansour cipher: the start, and P under a mask.
+pub mod cipher;
+pub mod start;

@@ -1,0 +1,5 @@
+pub mod Demand
+pub mod Order
+pub mod Places
+pub mod Sizes
+pub mod Walked

@@ -1,0 +1,130 @@
+-- Where a list leads is decided by its three net counts. Assumes nothing.
+use mathlib.Core.Path.{_≡_, refl, sym, ap, ap₂, _∙_}
+use mathlib.Core.Bool.{Bool, true, false, cond}
+use mathlib.Core.List.{List, [], _∷_}
+use Prim.Native.Nat.{ℕ, zero, suc, _+_, _≤_, _<_}
+use native.Mathlib.Omega.{arith}
+use lib.Dec.{eqb}
+use lib.IntN.{ℤ, pos, negsuc, sucℤ, predℤ, natAbs, negℤ, _+ℤ_, _-ℤ_, sucℤ-+ℤ, negℤ-sucℤ, +ℤ-predℤ}
+use lib.ListN.{length}
+use borrow.Author.Tests.{ne-eqb}
+use Rattle.words.specs.Sequence.{times}
+use Rattle.words.specs.Block.{Block, xorBlock}
+use Rattle.masks.specs.Steps.{Step, alpha, beta, gamma}
+use Rattle.masks.specs.BackSteps.{unAlpha, unBeta, unGamma}
+use Rattle.masks.proofs.Laws.{alpha-step, beta-step, gamma-step, alpha-beta, alpha-gamma, beta-gamma, back-step, commute-back}
+use Rattle.walking.specs.Walking.{step, walked, taken, jumped}
+use Rattle.walking.specs.Demand3.{count, net}
+use Rattle.walking.proofs.Order.{Keeps, Commute, turn, taken-more, taken-less, taken-keeps, taken-commute}
+
+-- ---- a move ahead of a jump counts for its own kind
+
+module _ (i j k : ℤ) (s : List ℕ) (b : Block s) where
+  first : (h : List ℕ → List ℕ) (i′ : ℤ) → taken alpha unAlpha i (h s) ≡ taken alpha unAlpha i′ s → jumped i j k (h s) ≡ jumped i′ j k s
+  unfolding jumped
+  first h i′ e = ap (λ (x : List ℕ). taken gamma unGamma k (taken beta unBeta j x)) e
+
+  reached : Block (taken alpha unAlpha i s)
+  reached = taken-keeps alpha unAlpha alpha-step i s b
+
+  second : (h : List ℕ → List ℕ) (j′ : ℤ) → Keeps h → Commute h alpha
+      → ((t : List ℕ) → Block t → taken beta unBeta j (h t) ≡ taken beta unBeta j′ t) → jumped i j k (h s) ≡ jumped i j′ k s
+  unfolding jumped
+  second h j′ keeps c e =
+      ap (taken gamma unGamma k)
+      (ap (taken beta unBeta j) (sym (taken-commute alpha unAlpha alpha-step h keeps c i s b))
+      ∙ e (taken alpha unAlpha i s) reached)
+
+  third : (h : List ℕ → List ℕ) (k′ : ℤ) → Keeps h → Commute h alpha → Commute h beta
+      → ((t : List ℕ) → Block t → taken gamma unGamma k (h t) ≡ taken gamma unGamma k′ t) → jumped i j k (h s) ≡ jumped i j k′ s
+  unfolding jumped
+  third h k′ keeps c d e =
+      ap (λ (x : List ℕ). taken gamma unGamma k (taken beta unBeta j x)) (sym (taken-commute alpha unAlpha alpha-step h keeps c i s b))
+      ∙ ap (taken gamma unGamma k) (sym (taken-commute beta unBeta beta-step h keeps d j (taken alpha unAlpha i s) reached))
+      ∙ e (taken beta unBeta j (taken alpha unAlpha i s)) (taken-keeps beta unBeta beta-step j (taken alpha unAlpha i s) reached)
+
+-- ---- any two moves commute
+
+beta-alpha : Commute beta alpha
+beta-alpha = turn alpha beta alpha-beta
+
+gamma-alpha : Commute gamma alpha
+gamma-alpha = turn alpha gamma alpha-gamma
+
+gamma-beta : Commute gamma beta
+gamma-beta = turn beta gamma beta-gamma
+
+unBeta-alpha : Commute unBeta alpha
+unBeta-alpha = commute-back beta unBeta beta-step alpha (alpha-step .on) beta-alpha
+
+unGamma-alpha : Commute unGamma alpha
+unGamma-alpha = commute-back gamma unGamma gamma-step alpha (alpha-step .on) gamma-alpha
+
+unGamma-beta : Commute unGamma beta
+unGamma-beta = commute-back gamma unGamma gamma-step beta (beta-step .on) gamma-beta
+
+-- ---- the whole list
+
+-- a byte that is no step adds to no net count
+net-other : (kind k : ℕ) (l : List ℕ) → (k ≡ kind → ⊥) → (k ≡ kind + 3 → ⊥) → net kind l ≡ net kind (k ∷ l)
+unfolding net count
+net-other kind k l h g = rw (ne-eqb k kind h, ne-eqb k (kind + 3) g)
+
+stays : (k : ℕ) → 6 < k → (l s : List ℕ) → jumped (net 1 l) (net 2 l) (net 3 l) s ≡ jumped (net 1 (k ∷ l)) (net 2 (k ∷ l)) (net 3 (k ∷ l)) s
+stays k h l s =
+    rw (
+      net-other 1 k l (λ e. omega arith) (λ e. omega arith),
+      net-other 2 k l (λ e. omega arith) (λ e. omega arith),
+      net-other 3 k l (λ e. omega arith) (λ e. omega arith),
+    )
+
+-- a step ahead of a jump by a list's net counts is a jump by those of the list with that step
+ahead : (k : ℕ) (l s : List ℕ) → Block s
+    → jumped (net 1 l) (net 2 l) (net 3 l) (step k s) ≡ jumped (net 1 (k ∷ l)) (net 2 (k ∷ l)) (net 3 (k ∷ l)) s
+unfolding step net count
+ahead zero l s b = refl
+ahead (suc zero) l s b = first _ _ _ s b alpha _ (taken-more alpha unAlpha alpha-step (count 1 l) (count 4 l) s b)
+ahead (suc (suc zero)) l s b = second _ _ _ s b beta _ (beta-step .on) beta-alpha (taken-more beta unBeta beta-step (count 2 l) (count 5 l))
+ahead (suc (suc (suc zero))) l s b = third _ _ _ s b gamma _ (gamma-step .on) gamma-alpha gamma-beta (taken-more gamma unGamma gamma-step (count 3 l) (count 6 l))
+ahead (suc (suc (suc (suc zero)))) l s b = first _ _ _ s b unAlpha _ (taken-less alpha unAlpha alpha-step (count 1 l) (count 4 l) s b)
+ahead (suc (suc (suc (suc (suc zero))))) l s b = second _ _ _ s b unBeta _ (beta-step .off) unBeta-alpha (taken-less beta unBeta beta-step (count 2 l) (count 5 l))
+ahead (suc (suc (suc (suc (suc (suc zero)))))) l s b =
+    third _ _ _ s b unGamma _ (gamma-step .off) unGamma-alpha unGamma-beta (taken-less gamma unGamma gamma-step (count 3 l) (count 6 l))
+ahead (suc (suc (suc (suc (suc (suc (suc k))))))) l s b = stays (suc (suc (suc (suc (suc (suc (suc k))))))) (omega arith) l s
+
+stay : Step (λ s. s) (λ s. s)
+stay = record { on = λ s b. b; off = λ s b. b; undo = λ s b. refl; redo = λ s b. refl; linear = λ s t b d. refl }
+
+-- a step and its way back; a byte that is no step is its own
+pub moves : (k : ℕ) → (back : List ℕ → List ℕ) × Step (step k) back
+unfolding step
+moves zero = (_, stay)
+moves (suc zero) = (unAlpha, alpha-step)
+moves (suc (suc zero)) = (unBeta, beta-step)
+moves (suc (suc (suc zero))) = (unGamma, gamma-step)
+moves (suc (suc (suc (suc zero)))) = (alpha, back-step alpha unAlpha alpha-step)
+moves (suc (suc (suc (suc (suc zero))))) = (beta, back-step beta unBeta beta-step)
+moves (suc (suc (suc (suc (suc (suc zero)))))) = (gamma, back-step gamma unGamma gamma-step)
+moves (suc (suc (suc (suc (suc (suc (suc k))))))) = (_, stay)
+
+pub walked-keeps : (l : List ℕ) → Keeps (walked l)
+unfolding walked
+walked-keeps [] s b = b
+walked-keeps (k ∷ l) s b = walked-keeps l (step k s) (moves k .1 .on s b)
+
+nowhere : (s : List ℕ) → s ≡ jumped (net 1 []) (net 2 []) (net 3 []) s
+unfolding jumped taken net count times
+nowhere s = refl
+
+pub leads : (l s : List ℕ) → Block s → walked l s ≡ jumped (net 1 l) (net 2 l) (net 3 l) s
+unfolding walked
+leads [] s b = nowhere s
+leads (k ∷ l) s b = leads l (step k s) (moves k .1 .on s b) ∙ ahead k l s b
+
+-- a list keeps exclusive or
+pub walked-linear : (l s t : List ℕ) → Block s → Block t → walked l (xorBlock s t) ≡ xorBlock (walked l s) (walked l t)
+unfolding walked
+walked-linear [] s t b d = refl
+walked-linear (k ∷ l) s t b d =
+    ap (walked l) (moves k .1 .linear s t b d)
+    ∙ walked-linear l (step k s) (step k t) (moves k .1 .on s b) (moves k .1 .on t d)

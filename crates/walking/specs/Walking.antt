@@ -1,0 +1,69 @@
+-- Walk and jump (document 01, "Entry points and where each call is checked"). Assumes nothing.
+use mathlib.Core.Bool.{Bool, cond, not, _&&_}
+use mathlib.Core.List.{List, [], _∷_, _++_}
+use Prim.Native.Nat.{ℕ, zero, suc}
+use lib.Dec.{leb, ltb, eqb}
+use lib.IntN.{ℤ, pos, negsuc, natAbs}
+use lib.ListN.{length, drop}
+use Rattle.words.specs.Sequence.{times}
+use Rattle.words.specs.Block.{blockOf, bytesOf}
+use Rattle.masks.specs.Steps.{alpha, beta, gamma}
+use Rattle.masks.specs.BackSteps.{unAlpha, unBeta, unGamma}
+use Rattle.answers.specs.Answers.{refuse}
+use Rattle.answers.specs.declared.Answer.{Answer}
+use Rattle.answers.specs.declared.Answer.the-variants.{Done, OutputLength, StartLength, NetCount, StepByte, ListLength}
+
+-- one step: 1, 2, 3 for alpha, beta, gamma; 4, 5, 6 for their back steps
+unfoldable pub step : ℕ → List ℕ → List ℕ
+step zero b = b
+step (suc zero) b = alpha b
+step (suc (suc zero)) b = beta b
+step (suc (suc (suc zero))) b = gamma b
+step (suc (suc (suc (suc zero)))) b = unAlpha b
+step (suc (suc (suc (suc (suc zero))))) b = unBeta b
+step (suc (suc (suc (suc (suc (suc zero)))))) b = unGamma b
+step (suc (suc (suc (suc (suc (suc (suc k))))))) b = b
+
+-- the block reached by taking each step in turn; an empty list stays at the start
+unfoldable pub walked : List ℕ → List ℕ → List ℕ
+walked [] b = b
+walked (k ∷ ks) b = walked ks (step k b)
+
+-- that many steps, back steps where negative
+unfoldable pub taken : (List ℕ → List ℕ) → (List ℕ → List ℕ) → ℤ → List ℕ → List ℕ
+taken forward back (pos n) b = times forward n b
+taken forward back (negsuc n) b = times back (suc n) b
+
+-- the block after i alpha, then j beta, then k gamma steps
+unfoldable pub jumped : ℤ → ℤ → ℤ → List ℕ → List ℕ
+jumped i j k b = taken gamma unGamma k (taken beta unBeta j (taken alpha unAlpha i b))
+
+-- a step byte from 1 to 6
+unfoldable pub isStep : ℕ → Bool
+isStep k = leb 1 k && leb k 6
+
+-- the place of the first step byte outside 1 to 6, counted from 0, or the list's length
+unfoldable pub firstBad : List ℕ → ℕ
+firstBad [] = 0
+firstBad (k ∷ ks) = cond (isStep k) (suc (firstBad ks)) 0
+
+-- a net count may be negative, from -65,536 to 65,536
+unfoldable pub inRange : ℤ → Bool
+inRange z = leb (natAbs z) 65536
+
+-- what walk answers and leaves in the output: checks 10, 13, 12, 7, then the block reached; output beyond it is unchanged
+unfoldable pub walkCall : List ℕ → List ℕ → List ℕ → Answer × List ℕ
+walkCall start steps out =
+    refuse (not (eqb (length start) 128)) StartLength out
+    (refuse (ltb 4096 (length steps)) ListLength out
+    (refuse (ltb (firstBad steps) (length steps)) (StepByte (firstBad steps)) out
+    (refuse (ltb (length out) 128) OutputLength out
+    (Done 128, bytesOf (walked steps (blockOf start)) ++ drop 128 out))))
+
+-- what jump answers and leaves in the output: checks 10, 11, 7, then the block reached; output beyond it is unchanged
+unfoldable pub jumpCall : List ℕ → ℤ → ℤ → ℤ → List ℕ → Answer × List ℕ
+jumpCall start i j k out =
+    refuse (not (eqb (length start) 128)) StartLength out
+    (refuse (not (inRange i && (inRange j && inRange k))) NetCount out
+    (refuse (ltb (length out) 128) OutputLength out
+    (Done 128, bytesOf (jumped i j k (blockOf start)) ++ drop 128 out)))
