@@ -27,14 +27,14 @@ g a b c d =
 
 unfoldable pub table : List Row
 table =
-    record { got = g 1 0 0 0; want = 0x101 ∷ 0x0202000200020200 ∷ 0x0101000100010000 ∷ 0x0101000000010000 ∷ [] } -- P1
-    ∷ record { got = round zeroBlock; want = zeroBlock } -- P2
-    ∷ record { got = alpha (word 0 1); want = word 15 0x0020000000000000 } -- P3
-    ∷ record { got = alpha (word 0 0x800); want = word 15 1 } -- P4
-    ∷ record { got = alpha (word 5 1); want = set (word 4 1) 15 0x2000 } -- P5
-    ∷ record { got = alpha (word 5 0x0008000000000000); want = word 4 0x0008000000000000 } -- P6
-    ∷ record { got = beta (word 0 1); want = set (word 0 1) 15 0x0020000000000000 } -- P7
-    ∷ record { got = unAlpha (word 15 1); want = word 0 0x800 } -- P8
+    record { got = g 1 0 0 0; want = 0x101 ∷ 0x0202000200020200 ∷ 0x0101000100010000 ∷ 0x0101000000010000 ∷ [] }  -- P1
+    ∷ record { got = round zeroBlock; want = zeroBlock }  -- P2
+    ∷ record { got = alpha (word 0 1); want = word 15 0x0020000000000000 }  -- P3
+    ∷ record { got = alpha (word 0 0x800); want = word 15 1 }  -- P4
+    ∷ record { got = alpha (word 5 1); want = set (word 4 1) 15 0x2000 }  -- P5
+    ∷ record { got = alpha (word 5 0x0008000000000000); want = word 4 0x0008000000000000 }  -- P6
+    ∷ record { got = beta (word 0 1); want = set (word 0 1) 15 0x0020000000000000 }  -- P7
+    ∷ record { got = unAlpha (word 15 1); want = word 0 0x800 }  -- P8
     ∷ []
 
 -- the test that is computed over the whole table
