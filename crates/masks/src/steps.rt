@@ -34,7 +34,8 @@ pub fn alpha(s: [u64; 16]) -> [u64; 16]
 pub fn beta(s: [u64; 16]) -> [u64; 16]
     ensures { λ r. ⌜ r ≡ betaOf s ⌝ }
 {
-    xor(alpha(s), s)
+    let once = alpha(s);
+    xor(once, s)
 }
 
 // Alpha taken twice, xor alpha taken once, xor the block.

@@ -1,4 +1,4 @@
--- Assumes nothing.
+-- A literal of sixteen words is the definition's list. Assumes nothing.
 use Rattle.words.specs.Block.{Block}
 use Rattle.masks.specs.Steps.{alphaW}
 use Rattle.masks.proofs.Arrays.{array-block, alpha-words}
