@@ -1,24 +1,22 @@
 -- Beta and gamma are undone by their back steps, and redo them: the first words of a block are the only ones that meet the
 -- condition on the new words. Assumes nothing.
-use mathlib.Core.Path.{_≡_, refl, sym, ap, ap₂, _∙_, subst}
-use mathlib.Core.List.{List, [], _∷_}
-use Prim.Native.Nat.{ℕ, zero, suc, _+_, _-_, _*_, _^_, _≤_, _<_}
-use native.Mathlib.Nat.{add-comm, add-zero, zero-add, add-suc, suc-add}
+use mathlib.Core.Path.{_≡_, refl, sym, ap, ap₂, _∙_}
+use mathlib.Core.List.{List}
+use Prim.Native.Nat.{ℕ, zero, suc, _+_, _^_, _<_}
 use native.Mathlib.Numerals.{add-one, add-two}
 use native.Mathlib.Omega.{arith}
-use native.Mathlib.Decide.{decLt}
-use lib.Dec.{lit<, lit≤}
-use lib.ListN.{length, getD}
+use lib.Dec.{lit<}
+use lib.ListN.{getD}
 use lib.Pow.{pow-pos}
 use lib.Bits.{bitXor, xor-lt, xor-self, xor-comm, xor-zero-l, xor-zero-r}
 use Rattle.words.specs.Sequence.{tab}
-use Rattle.words.specs.Word.{rotL, shl}
-use Rattle.words.specs.Block.{Block, xorBlock}
-use Rattle.words.proofs.Lists.{getD-tab, tab-ext}
+use Rattle.words.specs.Word.{shl}
+use Rattle.words.specs.Block.{Block}
+use Rattle.words.proofs.Lists.{tab-ext}
 use Rattle.words.proofs.Words.{shl-lt, shl-xor}
 use Rattle.words.proofs.Xor.{xor-assoc, xor-cancel-l, xor-cancel-r, xor-swap}
-use Rattle.words.proofs.Blocks.{xor-block, block-tab, block-is}
-use Rattle.masks.specs.Steps.{alpha, alphaW, beta, gamma}
+use Rattle.words.proofs.Blocks.{block-tab, block-is}
+use Rattle.masks.specs.Steps.{alphaW, beta, gamma}
 use Rattle.masks.specs.Tables.{gammaTable}
 use Rattle.masks.specs.BackSteps.{betaRun, betaSide, betaWord, unBeta, gammaRun, gammaSide, gammaWord, unGamma}
 use Rattle.masks.proofs.Solving.{betaOn, word-betaWord, beta-solved, beta-found, gammaX, gammaY, pair-gammaWord, gamma-solved, gamma-found}

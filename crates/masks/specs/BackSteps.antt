@@ -1,7 +1,7 @@
 -- The three back steps (document 01, "Masks"). A reader need not believe the ways of solving for words here, or the numbers of their
 -- tables: theorem back-steps (proofs/Laws) shows each value to be the only block whose forward step gives the block at hand.
 -- Assumes nothing.
-use mathlib.Core.List.{List, [], _∷_}
+use mathlib.Core.List.{List, _∷_}
 use Prim.Native.Nat.{ℕ, zero, suc, _+_, _*_, _/_, _%_, _^_}
 use lib.ListN.{getD, take}
 use lib.Bits.{bitXor}
