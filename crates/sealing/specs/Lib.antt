@@ -1,2 +1,0 @@
-pub mod Sealing
-pub mod Demand2
