@@ -2,7 +2,7 @@
 
 #include <string.h>
 
-enum { WORDS = 16, BLOCK = 128, KEY = 32, NONCE = 16, TAG = 32 };
+enum { WORDS = 16, BLOCK = 128, KEY = 32, NONCE = 16, TAG = 32, RUN = 16 };
 enum { MAX_HEADER = 4096, MAX_MESSAGE = 65536, MAX_STEPS = 4096, MAX_COUNT = 65536 };
 enum { OPP = 1, MRO = 2 };
 
@@ -23,17 +23,28 @@ static inline uint64_t rotr(uint64_t x, int n)
     return x >> n | x << (64 - n);
 }
 
+/* Words stand low byte first. */
+static inline uint64_t little_endian(uint64_t x)
+{
+#if defined(__BYTE_ORDER__) && __BYTE_ORDER__ == __ORDER_BIG_ENDIAN__
+    return __builtin_bswap64(x);
+#else
+    return x;
+#endif
+}
+
 static inline uint64_t load64(const uint8_t *p)
 {
-    return (uint64_t)p[0] | (uint64_t)p[1] << 8 | (uint64_t)p[2] << 16 | (uint64_t)p[3] << 24 |
-           (uint64_t)p[4] << 32 | (uint64_t)p[5] << 40 | (uint64_t)p[6] << 48 |
-           (uint64_t)p[7] << 56;
+    uint64_t x;
+
+    memcpy(&x, p, sizeof x);
+    return little_endian(x);
 }
 
 static inline void store64(uint8_t *p, uint64_t x)
 {
-    for (int i = 0; i < 8; i++)
-        p[i] = (uint8_t)(x >> 8 * i);
+    x = little_endian(x);
+    memcpy(p, &x, sizeof x);
 }
 
 static inline void load(uint64_t block[WORDS], const uint8_t *p)
@@ -124,11 +135,17 @@ void baseline_permute(uint32_t rounds, uint64_t s[16])
     permute(rounds, s);
 }
 
-/* Masks. */
+/* Steps. */
+
+/* The word that an alpha step puts behind the sixteen at m. */
+static inline uint64_t next_word(const uint64_t *m)
+{
+    return rotl(m[0], 53) ^ m[5] << 13;
+}
 
 static inline void alpha(uint64_t m[WORDS])
 {
-    uint64_t last = rotl(m[0], 53) ^ m[5] << 13;
+    uint64_t last = next_word(m);
 
     for (int i = 0; i < WORDS - 1; i++)
         m[i] = m[i + 1];
@@ -137,7 +154,7 @@ static inline void alpha(uint64_t m[WORDS])
 
 static inline void beta(uint64_t m[WORDS])
 {
-    uint64_t last = rotl(m[0], 53) ^ m[5] << 13 ^ m[15];
+    uint64_t last = next_word(m) ^ m[15];
 
     for (int i = 0; i < WORDS - 1; i++)
         m[i] ^= m[i + 1];
@@ -146,8 +163,8 @@ static inline void beta(uint64_t m[WORDS])
 
 static inline void gamma_step(uint64_t m[WORDS])
 {
-    uint64_t w16 = rotl(m[0], 53) ^ m[5] << 13;
-    uint64_t w17 = rotl(m[1], 53) ^ m[6] << 13;
+    uint64_t w16 = next_word(m);
+    uint64_t w17 = next_word(m + 1);
 
     for (int i = 0; i < WORDS - 2; i++)
         m[i] ^= m[i + 1] ^ m[i + 2];
@@ -155,14 +172,42 @@ static inline void gamma_step(uint64_t m[WORDS])
     m[15] ^= w16 ^ w17;
 }
 
-/* The mask (0, b, g) of start. */
-static void mask(uint64_t m[WORDS], const uint64_t start[WORDS], int b, int g)
+/* Masks. */
+
+/*
+ * Consecutive masks overlap in a run of words, so that an alpha step adds one word and moves none.
+ * The run grows well ahead of its use: a word just written is slow to read as part of a vector.
+ */
+struct masks {
+    uint64_t run[RUN + WORDS];
+    size_t at;
+};
+
+static inline uint64_t *mask(struct masks *masks)
 {
-    memcpy(m, start, BLOCK);
+    return masks->run + masks->at;
+}
+
+/* The mask (0, b, g) of start. */
+static void first_mask(struct masks *masks, const uint64_t start[WORDS], int b, int g)
+{
+    masks->at = RUN;
+    memcpy(mask(masks), start, BLOCK);
     while (b-- > 0)
-        beta(m);
+        beta(mask(masks));
     while (g-- > 0)
-        gamma_step(m);
+        gamma_step(mask(masks));
+}
+
+static inline void next_mask(struct masks *masks)
+{
+    if (masks->at == RUN) {
+        memcpy(masks->run, masks->run + RUN, BLOCK);
+        for (int i = 0; i < RUN; i++)
+            masks->run[WORDS + i] = next_word(masks->run + i);
+        masks->at = 0;
+    }
+    masks->at++;
 }
 
 /* E and D under the mask m. */
@@ -181,17 +226,17 @@ static inline void decrypt(uint32_t rounds, const uint64_t m[WORDS], uint64_t bl
     xor_into(block, m);
 }
 
-/* Adds E(i, 0, 0) of the whole blocks at p to sum, over the mask m, and steps m past them. */
-static void absorb(uint32_t rounds, uint64_t m[WORDS], const uint8_t *p, size_t blocks,
+/* Adds E of the whole blocks at p to sum, each under its mask, and steps the masks past them. */
+static void absorb(uint32_t rounds, struct masks *masks, const uint8_t *p, size_t blocks,
                    uint64_t sum[WORDS])
 {
     uint64_t block[WORDS];
 
     for (; blocks > 0; blocks--, p += BLOCK) {
         load(block, p);
-        encrypt(rounds, m, block);
+        encrypt(rounds, mask(masks), block);
         xor_into(sum, block);
-        alpha(m);
+        next_mask(masks);
     }
 }
 
@@ -220,16 +265,17 @@ static void xor_bytes(uint8_t *out, const uint8_t *in, const uint64_t stream[WOR
 static void opp_header(uint32_t rounds, const uint64_t start[WORDS], const uint8_t *header,
                        size_t len, uint64_t sum[WORDS])
 {
-    uint64_t m[WORDS], block[WORDS];
+    struct masks masks;
+    uint64_t block[WORDS];
     size_t blocks = len / BLOCK, leftover = len % BLOCK;
 
-    memcpy(m, start, BLOCK);
     memset(sum, 0, BLOCK);
-    absorb(rounds, m, header, blocks, sum);
+    first_mask(&masks, start, 0, 0);
+    absorb(rounds, &masks, header, blocks, sum);
     if (leftover > 0) {
         load_padded(block, header + blocks * BLOCK, leftover, 1);
-        beta(m);
-        encrypt(rounds, m, block);
+        beta(mask(&masks));
+        encrypt(rounds, mask(&masks), block);
         xor_into(sum, block);
     }
 }
@@ -258,34 +304,36 @@ static void opp_finish(uint32_t rounds, uint64_t m[WORDS], const uint8_t *in, ui
 static void opp_seal(uint32_t rounds, const uint64_t start[WORDS], const uint8_t *in, uint8_t *out,
                      size_t len, uint64_t tag[WORDS])
 {
-    uint64_t m[WORDS], block[WORDS], check[WORDS] = {0};
+    struct masks masks;
+    uint64_t block[WORDS], check[WORDS] = {0};
 
-    mask(m, start, 0, 1);
+    first_mask(&masks, start, 0, 1);
     for (; len >= BLOCK; len -= BLOCK, in += BLOCK, out += BLOCK) {
         load(block, in);
         xor_into(check, block);
-        encrypt(rounds, m, block);
+        encrypt(rounds, mask(&masks), block);
         store(out, block);
-        alpha(m);
+        next_mask(&masks);
     }
-    opp_finish(rounds, m, in, out, len, 0, check);
+    opp_finish(rounds, mask(&masks), in, out, len, 0, check);
     xor_into(tag, check);
 }
 
 static void opp_open(uint32_t rounds, const uint64_t start[WORDS], const uint8_t *in, uint8_t *out,
                      size_t len, uint64_t tag[WORDS])
 {
-    uint64_t m[WORDS], block[WORDS], check[WORDS] = {0};
+    struct masks masks;
+    uint64_t block[WORDS], check[WORDS] = {0};
 
-    mask(m, start, 0, 1);
+    first_mask(&masks, start, 0, 1);
     for (; len >= BLOCK; len -= BLOCK, in += BLOCK, out += BLOCK) {
         load(block, in);
-        decrypt(rounds, m, block);
+        decrypt(rounds, mask(&masks), block);
         xor_into(check, block);
         store(out, block);
-        alpha(m);
+        next_mask(&masks);
     }
-    opp_finish(rounds, m, in, out, len, 1, check);
+    opp_finish(rounds, mask(&masks), in, out, len, 1, check);
     xor_into(tag, check);
 }
 
@@ -294,14 +342,15 @@ static void opp_open(uint32_t rounds, const uint64_t start[WORDS], const uint8_t
 static void mro_absorb(uint32_t rounds, const uint64_t start[WORDS], int b, const uint8_t *p,
                        size_t len, uint64_t sum[WORDS])
 {
-    uint64_t m[WORDS], block[WORDS];
+    struct masks masks;
+    uint64_t block[WORDS];
     size_t blocks = len / BLOCK, leftover = len % BLOCK;
 
-    mask(m, start, b, 0);
-    absorb(rounds, m, p, blocks, sum);
+    first_mask(&masks, start, b, 0);
+    absorb(rounds, &masks, p, blocks, sum);
     if (leftover > 0) {
         load_padded(block, p + blocks * BLOCK, leftover, 0);
-        encrypt(rounds, m, block);
+        encrypt(rounds, mask(&masks), block);
         xor_into(sum, block);
     }
 }
@@ -309,29 +358,30 @@ static void mro_absorb(uint32_t rounds, const uint64_t start[WORDS], int b, cons
 static void mro_tag(uint32_t rounds, const uint64_t start[WORDS], const uint8_t *header,
                     size_t header_len, const uint8_t *message, size_t len, uint64_t tag[WORDS])
 {
-    uint64_t m[WORDS];
+    struct masks masks;
 
     memset(tag, 0, BLOCK);
     mro_absorb(rounds, start, 0, header, header_len, tag);
     mro_absorb(rounds, start, 1, message, len, tag);
     tag[14] ^= header_len;
     tag[15] ^= len;
-    mask(m, start, 2, 0);
-    encrypt(rounds, m, tag);
+    first_mask(&masks, start, 2, 0);
+    encrypt(rounds, mask(&masks), tag);
 }
 
 /* Encrypts or decrypts under the tag. */
 static void mro_stream(uint32_t rounds, const uint64_t start[WORDS], const uint64_t tag[4],
                        const uint8_t *in, uint8_t *out, size_t len)
 {
-    uint64_t m[WORDS], block[WORDS], text[WORDS];
+    struct masks masks;
+    uint64_t block[WORDS], text[WORDS];
 
-    mask(m, start, 0, 1);
+    first_mask(&masks, start, 0, 1);
     for (uint64_t i = 0; len > 0; i++) {
         memcpy(block, tag, TAG);
         memset(block + 4, 0, BLOCK - TAG);
         block[15] = i;
-        encrypt(rounds, m, block);
+        encrypt(rounds, mask(&masks), block);
         if (len < BLOCK) {
             xor_bytes(out, in, block, len);
             return;
