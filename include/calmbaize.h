@@ -38,6 +38,12 @@ extern "C" {
 #define CALMBAIZE_STEPS_MAX 4096U
 #define CALMBAIZE_COUNT_MAX 65536
 
+/* The deepest stack of each call in bytes, on x86-64. */
+#define CALMBAIZE_SEAL_STACK_BYTES 4096U
+#define CALMBAIZE_OPEN_STACK_BYTES 4096U
+#define CALMBAIZE_WALK_STACK_BYTES 8192U
+#define CALMBAIZE_JUMP_STACK_BYTES 8192U
+
 /* Modes. OPP needs a fresh nonce for every message; MRO tolerates a repeated one. */
 #define CALMBAIZE_MODE_OPP 1U
 #define CALMBAIZE_MODE_MRO 2U

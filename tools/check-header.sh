@@ -1,9 +1,14 @@
 #!/bin/sh
-# Compiles include/calmbaize.h by itself as C99, C11 and C++, every warning an error, and checks
-# the constants and the way an answer is taken apart.
+# Compiles calmbaize.h by itself as C and C++, every warning an error, and checks the constants and
+# the way an answer is taken apart.
+#
+# usage: check-header.sh [FOLDER]
+#
+# FOLDER holds the header, include/ if it is not given.
 set -u
 
 root=$(cd "$(dirname "$0")/.." && pwd)
+folder=${1:-$root/include}
 work=$(mktemp -d)
 trap 'rm -rf "$work"' EXIT
 passed=0
@@ -26,7 +31,7 @@ END
 cp "$work/answer.c" "$work/answer.cpp"
 
 try() {
-    if "$@" -Wall -Wextra -Wpedantic -Werror -I "$root/include" -o "$work/answer" &&
+    if "$@" -Wall -Wextra -Wpedantic -Werror -I "$folder" -o "$work/answer" &&
         "$work/answer"; then
         passed=$((passed + 1))
     else
@@ -39,7 +44,7 @@ for standard in c99 c11 c17; do
     try "${CC:-cc}" "-std=$standard" -Wconversion -Wstrict-prototypes "$work/answer.c"
 done
 for standard in c++98 c++11 c++17; do
-    # C++98 has no <cstdint> types in its standard, so it is allowed long long.
+    # The types of 64 bits are long long on some machines, which C++98 does not have.
     try "${CXX:-c++}" "-std=$standard" -Wno-long-long -Wconversion "$work/answer.cpp"
 done
 
