@@ -32,7 +32,7 @@ extern "C" {
 #define CALMBAIZE_BLOCK_BYTES 128U
 #define CALMBAIZE_HEADER_BYTES_MAX 4096U
 #define CALMBAIZE_MESSAGE_BYTES_MAX 65536U
-#define CALMBAIZE_PARCEL_BYTES_MAX (CALMBAIZE_MESSAGE_BYTES_MAX + CALMBAIZE_TAG_BYTES)
+#define CALMBAIZE_SEALED_BYTES_MAX (CALMBAIZE_MESSAGE_BYTES_MAX + CALMBAIZE_TAG_BYTES)
 
 /* Steps in one walk, and the bound on each net count of a jump. */
 #define CALMBAIZE_STEPS_MAX 4096U
@@ -57,20 +57,20 @@ extern "C" {
 #define CALMBAIZE_STEP_GAMMA_BACK 6U
 
 /* Refusals. */
-#define CALMBAIZE_OK 0U             /* nothing refused */
-#define CALMBAIZE_REFUSED_MODE 1U   /* mode not 1 or 2 */
-#define CALMBAIZE_REFUSED_ROUNDS 2U /* rounds not 4 or 6 */
-#define CALMBAIZE_REFUSED_KEY 3U    /* key not 32 bytes */
-#define CALMBAIZE_REFUSED_NONCE 4U  /* nonce not 16 bytes */
-#define CALMBAIZE_REFUSED_HEADER 5U /* header over 4,096 bytes */
-#define CALMBAIZE_REFUSED_INPUT 6U  /* message over 65,536 bytes, parcel over 65,568 */
-#define CALMBAIZE_REFUSED_OUTPUT 7U /* output shorter than success writes */
-#define CALMBAIZE_REFUSED_PARCEL 8U /* parcel under 32 bytes */
-#define CALMBAIZE_REFUSED_TAG 9U    /* tag differs */
-#define CALMBAIZE_REFUSED_START 10U /* start not 128 bytes */
-#define CALMBAIZE_REFUSED_COUNT 11U /* net count outside -65,536 to 65,536 */
-#define CALMBAIZE_REFUSED_STEP 12U  /* step byte outside 1 to 6; its index is the place */
-#define CALMBAIZE_REFUSED_STEPS 13U /* list over 4,096 steps */
+#define CALMBAIZE_OK 0U                       /* nothing refused */
+#define CALMBAIZE_REFUSED_MODE 1U             /* mode not 1 or 2 */
+#define CALMBAIZE_REFUSED_ROUNDS 2U           /* rounds not 4 or 6 */
+#define CALMBAIZE_REFUSED_KEY_LENGTH 3U       /* key not 32 bytes */
+#define CALMBAIZE_REFUSED_NONCE_LENGTH 4U     /* nonce not 16 bytes */
+#define CALMBAIZE_REFUSED_HEADER_TOO_LONG 5U  /* header over 4,096 bytes */
+#define CALMBAIZE_REFUSED_INPUT_TOO_LONG 6U   /* message over 65,536 bytes, parcel over 65,568 */
+#define CALMBAIZE_REFUSED_OUTPUT_TOO_SHORT 7U /* output shorter than success writes */
+#define CALMBAIZE_REFUSED_INPUT_TOO_SHORT 8U  /* parcel under 32 bytes */
+#define CALMBAIZE_REFUSED_TAG 9U              /* tag differs */
+#define CALMBAIZE_REFUSED_START_LENGTH 10U    /* start not 128 bytes */
+#define CALMBAIZE_REFUSED_COUNT 11U           /* net count outside -65,536 to 65,536 */
+#define CALMBAIZE_REFUSED_STEP 12U            /* step byte outside 1 to 6, at the place */
+#define CALMBAIZE_REFUSED_TOO_MANY_STEPS 13U  /* list over 4,096 steps */
 
 /* The refusal's number, or CALMBAIZE_OK. */
 static inline uint32_t calmbaize_refusal(uint64_t answer)

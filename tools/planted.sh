@@ -99,10 +99,10 @@ planted "a check out of order" \
     compare "$faulty" grounds
 planted "a bad step without its place" \
     's/refuse(12, (uint32_t)i)/refuse(12, 0)/' \
-    compare "$faulty" sheet
+    compare "$faulty" vectors
 planted "a limit off by one" \
     's/MAX_HEADER = 4096/MAX_HEADER = 4095/' \
-    compare "$faulty" sheet
+    compare "$faulty" vectors
 planted "the counter left out" \
     's/block\[15\] = i;/block[15] = 0;/' \
     compare "$faulty" edges

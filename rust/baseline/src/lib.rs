@@ -2,6 +2,23 @@
 
 #![no_std]
 
+/// The type of seal and open: mode and rounds, then key, nonce, header, input and output, each
+/// with its length.
+pub type Sealing = unsafe extern "C" fn(
+    u32,
+    u32,
+    *const u8,
+    usize,
+    *const u8,
+    usize,
+    *const u8,
+    usize,
+    *const u8,
+    usize,
+    *mut u8,
+    usize,
+) -> u64;
+
 extern "C" {
     /// Seals; the arguments are those of `calmbaize_seal`.
     pub fn baseline_seal(

@@ -1,6 +1,7 @@
 //! What is measured: implementations, settings, calls and lengths.
 
 use crate::sodium::Sodium;
+use baseline::Sealing;
 use std::fmt;
 
 /// Message lengths in bytes. The first is a sale record.
@@ -102,21 +103,6 @@ pub fn all(sodium: Option<&Sodium>) -> Vec<Case> {
     }
     cases
 }
-
-type Sealing = unsafe extern "C" fn(
-    u32,
-    u32,
-    *const u8,
-    usize,
-    *const u8,
-    usize,
-    *const u8,
-    usize,
-    *const u8,
-    usize,
-    *mut u8,
-    usize,
-) -> u64;
 
 /// An implementation of this construction.
 #[derive(Clone, Copy)]

@@ -90,8 +90,8 @@ pub mod step {
 /// # Errors
 ///
 /// The first of [`Refusal::Rounds`], [`KeyLength`](Refusal::KeyLength),
-/// [`NonceLength`](Refusal::NonceLength), [`HeaderLength`](Refusal::HeaderLength),
-/// [`InputLength`](Refusal::InputLength) and [`OutputLength`](Refusal::OutputLength) whose ground
+/// [`NonceLength`](Refusal::NonceLength), [`HeaderTooLong`](Refusal::HeaderTooLong),
+/// [`InputTooLong`](Refusal::InputTooLong) and [`OutputTooShort`](Refusal::OutputTooShort) whose ground
 /// holds. No byte of `output` changes then.
 ///
 /// # Examples
@@ -102,7 +102,7 @@ pub mod step {
 /// let mut parcel = [0; 64];
 /// assert_eq!(seal(Mode::Opp, 4, &[0; 32], &[0; 16], b"", b"tea", &mut parcel), Ok(35));
 /// let short = seal(Mode::Opp, 4, &[0; 32], &[0; 16], b"", b"tea", &mut parcel[..34]);
-/// assert_eq!(short, Err(Refusal::OutputLength));
+/// assert_eq!(short, Err(Refusal::OutputTooShort));
 /// ```
 pub fn seal(
     mode: Mode,
@@ -141,9 +141,9 @@ pub fn seal(
 /// # Errors
 ///
 /// The first of [`Refusal::Rounds`], [`KeyLength`](Refusal::KeyLength),
-/// [`NonceLength`](Refusal::NonceLength), [`HeaderLength`](Refusal::HeaderLength),
-/// [`ParcelLength`](Refusal::ParcelLength), [`InputLength`](Refusal::InputLength),
-/// [`OutputLength`](Refusal::OutputLength) and [`Tag`](Refusal::Tag) whose ground holds. On
+/// [`NonceLength`](Refusal::NonceLength), [`HeaderTooLong`](Refusal::HeaderTooLong),
+/// [`InputTooShort`](Refusal::InputTooShort), [`InputTooLong`](Refusal::InputTooLong),
+/// [`OutputTooShort`](Refusal::OutputTooShort) and [`Tag`](Refusal::Tag) whose ground holds. On
 /// [`Tag`](Refusal::Tag) the bytes that the message would have filled are zero; otherwise no byte
 /// of `output` changes.
 ///
@@ -192,8 +192,8 @@ pub fn open(
 ///
 /// # Errors
 ///
-/// The first of [`Refusal::StartLength`], [`StepsLength`](Refusal::StepsLength),
-/// [`Step`](Refusal::Step) and [`OutputLength`](Refusal::OutputLength) whose ground holds. No byte
+/// The first of [`Refusal::StartLength`], [`TooManySteps`](Refusal::TooManySteps),
+/// [`Step`](Refusal::Step) and [`OutputTooShort`](Refusal::OutputTooShort) whose ground holds. No byte
 /// of `output` changes then.
 ///
 /// # Examples
@@ -229,7 +229,7 @@ pub fn walk(start: &[u8], steps: &[u8], output: &mut [u8]) -> Result<usize, Refu
 /// # Errors
 ///
 /// The first of [`Refusal::StartLength`], [`Count`](Refusal::Count) and
-/// [`OutputLength`](Refusal::OutputLength) whose ground holds. No byte of `output` changes then.
+/// [`OutputTooShort`](Refusal::OutputTooShort) whose ground holds. No byte of `output` changes then.
 ///
 /// # Examples
 ///

@@ -17,13 +17,13 @@ pub enum Refusal {
     /// 4: the nonce is not 16 bytes long.
     NonceLength,
     /// 5: the header is over 4,096 bytes long.
-    HeaderLength,
+    HeaderTooLong,
     /// 6: the message is over 65,536 bytes long, or the parcel over 65,568.
-    InputLength,
+    InputTooLong,
     /// 7: the output is shorter than what success writes.
-    OutputLength,
+    OutputTooShort,
     /// 8: the parcel is under 32 bytes long.
-    ParcelLength,
+    InputTooShort,
     /// 9: the parcel's tag differs.
     Tag,
     /// 10: the start is not 128 bytes long.
@@ -36,7 +36,7 @@ pub enum Refusal {
         place: u32,
     },
     /// 13: the list has over 4,096 steps.
-    StepsLength,
+    TooManySteps,
 }
 
 impl Refusal {
@@ -48,17 +48,17 @@ impl Refusal {
             2 => Self::Rounds,
             3 => Self::KeyLength,
             4 => Self::NonceLength,
-            5 => Self::HeaderLength,
-            6 => Self::InputLength,
-            7 => Self::OutputLength,
-            8 => Self::ParcelLength,
+            5 => Self::HeaderTooLong,
+            6 => Self::InputTooLong,
+            7 => Self::OutputTooShort,
+            8 => Self::InputTooShort,
             9 => Self::Tag,
             10 => Self::StartLength,
             11 => Self::Count,
             12 => Self::Step {
                 place: answer as u32,
             },
-            13 => Self::StepsLength,
+            13 => Self::TooManySteps,
             _ => panic!("an answer that the library does not give"),
         })
     }
@@ -70,15 +70,15 @@ impl Refusal {
             Self::Rounds => 2,
             Self::KeyLength => 3,
             Self::NonceLength => 4,
-            Self::HeaderLength => 5,
-            Self::InputLength => 6,
-            Self::OutputLength => 7,
-            Self::ParcelLength => 8,
+            Self::HeaderTooLong => 5,
+            Self::InputTooLong => 6,
+            Self::OutputTooShort => 7,
+            Self::InputTooShort => 8,
             Self::Tag => 9,
             Self::StartLength => 10,
             Self::Count => 11,
             Self::Step { .. } => 12,
-            Self::StepsLength => 13,
+            Self::TooManySteps => 13,
         }
     }
 
@@ -98,15 +98,15 @@ impl fmt::Display for Refusal {
             Self::Rounds => "round count is not 4 or 6",
             Self::KeyLength => "key is not 32 bytes",
             Self::NonceLength => "nonce is not 16 bytes",
-            Self::HeaderLength => "header is over 4,096 bytes",
-            Self::InputLength => "message is over 65,536 bytes, or parcel over 65,568",
-            Self::OutputLength => "output is too short",
-            Self::ParcelLength => "parcel is under 32 bytes",
+            Self::HeaderTooLong => "header is over 4,096 bytes",
+            Self::InputTooLong => "message is over 65,536 bytes, or parcel over 65,568",
+            Self::OutputTooShort => "output is too short",
+            Self::InputTooShort => "parcel is under 32 bytes",
             Self::Tag => "tag differs",
             Self::StartLength => "start is not 128 bytes",
             Self::Count => "net count is outside -65,536 to 65,536",
             Self::Step { place } => return write!(f, "step at {place} is not 1 to 6"),
-            Self::StepsLength => "list is over 4,096 steps",
+            Self::TooManySteps => "list is over 4,096 steps",
         })
     }
 }

@@ -25,15 +25,15 @@ fn seal_refusals() {
         ),
         (
             seal(mode, 4, &KEY, &NONCE, &long[..4097], &[], &mut out),
-            Refusal::HeaderLength,
+            Refusal::HeaderTooLong,
         ),
         (
             seal(mode, 4, &KEY, &NONCE, &[], &long, &mut out),
-            Refusal::InputLength,
+            Refusal::InputTooLong,
         ),
         (
             seal(mode, 4, &KEY, &NONCE, &[], &[1], &mut out[..32]),
-            Refusal::OutputLength,
+            Refusal::OutputTooShort,
         ),
     ];
     for (answer, refusal) in cases {
@@ -50,15 +50,15 @@ fn open_refusals() {
     let cases = [
         (
             open(mode, 6, &KEY, &NONCE, &[], &long[..31], &mut out),
-            Refusal::ParcelLength,
+            Refusal::InputTooShort,
         ),
         (
             open(mode, 6, &KEY, &NONCE, &[], &long, &mut out),
-            Refusal::InputLength,
+            Refusal::InputTooLong,
         ),
         (
             open(mode, 6, &KEY, &NONCE, &[], &long[..34], &mut out[..1]),
-            Refusal::OutputLength,
+            Refusal::OutputTooShort,
         ),
         (
             open(mode, 6, &KEY, &NONCE, &[], &long[..32], &mut out),
@@ -76,16 +76,16 @@ fn mask_refusals() {
     let (start, mut out) = ([1; 128], [0xaa; 128]);
     let cases = [
         (walk(&start[..127], &[], &mut out), Refusal::StartLength),
-        (walk(&start, &[1; 4097], &mut out), Refusal::StepsLength),
+        (walk(&start, &[1; 4097], &mut out), Refusal::TooManySteps),
         (
             walk(&start, &[1, 2, 0], &mut out),
             Refusal::Step { place: 2 },
         ),
-        (walk(&start, &[], &mut out[..127]), Refusal::OutputLength),
+        (walk(&start, &[], &mut out[..127]), Refusal::OutputTooShort),
         (jump(&start[..1], 0, 0, 0, &mut out), Refusal::StartLength),
         (jump(&start, 0, -MAX_COUNT - 1, 0, &mut out), Refusal::Count),
         (jump(&start, 0, 0, i32::MIN, &mut []), Refusal::Count),
-        (jump(&start, 0, 0, 0, &mut []), Refusal::OutputLength),
+        (jump(&start, 0, 0, 0, &mut []), Refusal::OutputTooShort),
     ];
     for (answer, refusal) in cases {
         assert_eq!(answer, Err(refusal));

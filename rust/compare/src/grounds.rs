@@ -1,4 +1,4 @@
-//! Every set of grounds that can hold at once: the first in document order wins.
+//! Every set of grounds that can hold at once: the first in the order of the checks wins.
 
 use crate::library::{refusal, Call, Entry, Library};
 use crate::prng::Prng;

@@ -1,21 +1,8 @@
 //! Implementations with the C interface, and the second implementation behind the same face.
 
+use baseline::Sealing;
 use std::fmt;
 
-type Sealing = unsafe extern "C" fn(
-    u32,
-    u32,
-    *const u8,
-    usize,
-    *const u8,
-    usize,
-    *const u8,
-    usize,
-    *const u8,
-    usize,
-    *mut u8,
-    usize,
-) -> u64;
 type Walking = unsafe extern "C" fn(*const u8, usize, *const u8, usize, *mut u8, usize) -> u64;
 type Jumping = unsafe extern "C" fn(*const u8, usize, i32, i32, i32, *mut u8, usize) -> u64;
 

@@ -12,7 +12,7 @@ mod maskwalk;
 mod prng;
 mod random;
 mod report;
-mod sheet;
+mod vectors;
 
 use library::{Library, ARCHIVE, BASELINE};
 use prng::Prng;
@@ -26,7 +26,7 @@ const USAGE: &str = "\
 usage: compare [OPTIONS] CHECK...
 
 checks:
-  sheet       the bench sheet, line by line
+  vectors     known answers, and lengths at their limits
   grounds     every set of grounds that hold at once
   edges       lengths around the edges of blocks and limits
   damage      parcels damaged in every way
@@ -44,7 +44,7 @@ options:
   --maskwalk PATH              the program maskwalk";
 
 const ALL: [&str; 7] = [
-    "sheet", "grounds", "edges", "damage", "masks", "guard", "random",
+    "vectors", "grounds", "edges", "damage", "masks", "guard", "random",
 ];
 
 struct Options {
@@ -93,7 +93,7 @@ fn main() -> ExitCode {
 
 fn run(name: &str, library: &Library, options: &Options) -> Option<Tally> {
     Some(match name {
-        "sheet" => sheet::run(library),
+        "vectors" => vectors::run(library),
         "grounds" => grounds::run(library, options.seed),
         "edges" => edges::run(library, options.seed),
         "damage" => damage::run(library, options.seed),

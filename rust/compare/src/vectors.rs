@@ -1,4 +1,4 @@
-//! The bench sheet, line by line, with the values printed there.
+//! Known answers, and lengths at their limits.
 
 use crate::library::{refusal, Entry, Library};
 use crate::report::{pattern, Check, Tally};

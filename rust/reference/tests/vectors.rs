@@ -1,4 +1,4 @@
-//! The bench sheet's lines about the four entry points. P1 to P9 are tested beside the code.
+//! Known answers of the four entry points. Those of single steps are tested beside the code.
 
 use reference::{jump, open, seal, walk, Refusal};
 
