@@ -36,6 +36,11 @@ unfoldable pub fed : List ℕ → Scan → List ℕ → Scan × List ℕ
 fed [] s held = (s, held)
 fed (b ∷ bs) s held = let next = takeByte s b held in fed bs (next .0) (next .1)
 
+-- the parts of an input, one after another
+unfoldable pub feeds : List (List ℕ) → Scan → List ℕ → Scan × List ℕ
+feeds [] s held = (s, held)
+feeds (part ∷ parts) s held = let next = fed part s held in feeds parts (next .0) (next .1)
+
 -- the text where n bytes are held
 unfoldable pub counted : ℕ → List ℕ → List ℕ
 counted n held =
