@@ -1,10 +1,9 @@
 -- A scan of the input byte by byte ends with the text of the whole input. Assumes nothing.
 use mathlib.Core.Path.{_≡_, refl, sym, ap, ap₂, _∙_}
-use mathlib.Core.Bool.{Bool, true, false, cond, not, _&&_}
+use mathlib.Core.Bool.{Bool, true, false, cond, not}
 use mathlib.Core.List.{List, [], _∷_, _++_, map, append-assoc, append-nil}
 use Prim.Native.Nat.{ℕ, suc, _+_, _-_, _≤_, _<_}
-use native.Mathlib.Nat.{zero-add, add-zero, add-suc}
-use native.Mathlib.Numerals.{add-one}
+use native.Mathlib.Nat.{zero-add}
 use native.Mathlib.Omega.{arith}
 use lib.Dec.{ltb, eqb}
 use lib.ListN.{length, take, drop, set, length-append, length-drop, take-append-drop}
@@ -14,8 +13,8 @@ use Rattle.words.specs.Block.{blockOf}
 use Rattle.walking.specs.Walking.{walked}
 use Rattle.maskwalk_text.specs.declared.Scan.{Scan}
 use Rattle.maskwalk_text.specs.declared.Scan.the-variants.{Reading, Ended, Wrong}
-use Rattle.maskwalk_text.specs.Text.{upToFeed, start, letters, stepOf, allLetters, lines, short, letter, long, textOf}
-use Rattle.maskwalk_text.specs.Scan.{readByte, takeByte, fed, counted, report}
+use Rattle.maskwalk_text.specs.Text.{upToFeed, start, letters, stepOf, allLetters, lines, letter, long, textOf}
+use Rattle.maskwalk_text.specs.Scan.{keptAt, readByte, takeByte, fed, counted, report}
 
 -- a test that holds or not
 byTest : {A : Type 0} (t : Bool) → (t ≡ true → A) → (t ≡ false → A) → A
@@ -57,7 +56,7 @@ kept p rest n y v e = set-at p y rest v n e ∙ sym (append-snoc p v rest)
 
 module _ (n b : ℕ) (held : List ℕ) where
   read-start : n < 128 → (Reading (n + 1), set held n b) ≡ takeByte (Reading n) b held
-  unfolding takeByte readByte
+  unfolding takeByte readByte keptAt
   read-start h = rw (lt-ltb n 128 h)
 
   read-feed : 128 ≤ n → eqb b 10 ≡ true → (Ended n, held) ≡ takeByte (Reading n) b held
@@ -69,7 +68,7 @@ module _ (n b : ℕ) (held : List ℕ) where
   read-wrong h f w = rw (le-ltb n 128 h, f, w)
 
   read-letter : 128 ≤ n → eqb b 10 ≡ false → eqb (stepOf b) 0 ≡ false → n < 4224 → (Reading (n + 1), set held n (stepOf b)) ≡ takeByte (Reading n) b held
-  unfolding takeByte readByte
+  unfolding takeByte readByte keptAt
   read-letter h f w l = rw (le-ltb n 128 h, f, w, lt-ltb n 4224 l)
 
   read-over : 128 ≤ n → eqb b 10 ≡ false → eqb (stepOf b) 0 ≡ false → 4224 ≤ n → (Reading 4225, held) ≡ takeByte (Reading n) b held

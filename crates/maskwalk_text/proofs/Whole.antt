@@ -1,12 +1,10 @@
 -- The text written after all the parts is the text of the whole input. Assumes nothing.
 use mathlib.Core.Path.{_≡_, refl, sym, ap, _∙_}
 use mathlib.Core.Bool.{true, false, true≢false}
-use mathlib.Core.List.{List, [], _∷_, _++_, flatten}
+use mathlib.Core.List.{List, [], _∷_, flatten}
 use Prim.Native.Nat.{ℕ}
-use lib.ListN.{length}
 use Rattle.maskwalk_text.specs.declared.Scan.{Scan}
 use Rattle.maskwalk_text.specs.declared.Scan.the-variants.{Reading, Ended, Wrong}
-use Rattle.maskwalk_text.specs.Text.{textOf}
 use Rattle.maskwalk_text.specs.Scan.{isOpen, fed, feeds, report, written}
 use Rattle.maskwalk_text.specs.Whole.{Whole, afterParts}
 use Rattle.maskwalk_text.proofs.Scanning.{fed-append, fed-ended, fed-wrong, scanned}

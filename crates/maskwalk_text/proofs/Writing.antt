@@ -1,21 +1,15 @@
 -- Laws of text that is written to a list in place, cited by the loops. Assumes nothing.
-use mathlib.Core.Path.{_≡_, refl, sym, ap, ap₂, _∙_, subst}
-use mathlib.Core.Bool.{Bool, true, false, cond}
+use mathlib.Core.Path.{_≡_, refl, sym, ap, ap₂, _∙_}
 use mathlib.Core.List.{List, [], _∷_, _++_, append-assoc, append-nil}
-use Prim.Native.Nat.{ℕ, zero, suc, _+_, _-_, _*_, _/_, _%_, _≤_, _<_}
+use Prim.Native.Nat.{ℕ, zero, suc, _+_, _-_, _/_, _%_, _≤_, _<_}
 use native.Mathlib.Numerals.{add-one}
 use native.Mathlib.Omega.{arith}
-use lib.Dec.{ltb, lit≤}
 use lib.ListN.{length, getD, take, drop, set, length-append, length-drop, drop-of-length-le}
 use lib.Seq.{drop-cons, drop-drop, take-at, drop-at, take-suc, set-at, append-snoc, getD-set-same, drop-set-lt, lt-length-set, length-take-le}
 use borrow.Rule.Slice.PartMut.{putMid}
 use Rattle.words.proofs.Lists.{tailPart, length-cat}
-use Rattle.words.specs.Block.{blockOf}
-use Rattle.walking.specs.Walking.{walked}
-use Rattle.maskwalk_text.specs.declared.Scan.{Scan}
-use Rattle.maskwalk_text.specs.declared.Scan.the-variants.{Reading, Ended, Wrong}
-use Rattle.maskwalk_text.specs.Text.{digit, digits, line, lines, short, letter, long}
-use Rattle.maskwalk_text.specs.Scan.{written, counted, report}
+use Rattle.maskwalk_text.specs.Text.{digit, digits, line, lines}
+use Rattle.maskwalk_text.specs.Scan.{written}
 
 -- from the place of a store on
 pub drop-set : (i v : ℕ) (out : List ℕ) → i < length out → drop i (set out i v) ≡ v ∷ drop (suc i) out
@@ -70,19 +64,10 @@ pub lines-written : (b out xs : List ℕ) → xs ≡ lines b ++ drop 320 out →
 unfolding written
 lines-written b out xs e = rw (e, length-lines)
 
--- no text is longer than a block's
-either-fits : (t : Bool) (x y : List ℕ) → length x ≤ 320 → length y ≤ 320 → length (cond t x y) ≤ 320
-either-fits true x y h g = h
-either-fits false x y h g = g
-
-counted-fits : (n : ℕ) (held : List ℕ) → length (counted n held) ≤ 320
-unfolding counted short long
-counted-fits n held =
-    either-fits (ltb n 128) short _ (lit≤ tt)
-    (either-fits (ltb 4224 n) long _ (lit≤ tt) (omega (arith, length-lines (walked (take (n - 128) (drop 128 held)) (blockOf (take 128 held))))))
-
-pub report-fits : (s : Scan) (held : List ℕ) → length (report s held) ≤ 320
-unfolding report letter
-report-fits (Reading n) held = counted-fits n held
-report-fits (Ended n) held = counted-fits n held
-report-fits Wrong held = lit≤ tt
+-- what is written stands within the output
+pub written-within : (text out : List ℕ) {r : ℕ} {now : List ℕ} → (r, now) ≡ written text out → r ≤ length now
+unfolding written
+written-within text out {r} {now} e =
+    let count : r ≡ length text = ap (λ (x : ℕ × List ℕ). x .0) e in
+    let all : length now ≡ length text + length (drop (length text) out) = ap (λ (x : ℕ × List ℕ). length (x .1)) e ∙ length-append text (drop (length text) out) in
+    omega arith

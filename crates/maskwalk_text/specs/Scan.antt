@@ -16,13 +16,17 @@ isOpen (Reading n) = true
 isOpen (Ended n) = false
 isOpen Wrong = false
 
+-- a byte kept at place n, and counted
+unfoldable pub keptAt : ℕ → ℕ → List ℕ → Scan × List ℕ
+keptAt n b held = (Reading (n + 1), set held n b)
+
 -- one byte more, after n of them are held: a byte of the start as it is, a letter as its step byte; a letter that finds no place is counted once
 unfoldable pub readByte : ℕ → ℕ → List ℕ → Scan × List ℕ
 readByte n b held =
-    cond (ltb n 128) (Reading (n + 1), set held n b)
+    cond (ltb n 128) (keptAt n b held)
     (cond (eqb b 10) (Ended n, held)
     (cond (eqb (stepOf b) 0) (Wrong, held)
-    (cond (ltb n 4224) (Reading (n + 1), set held n (stepOf b))
+    (cond (ltb n 4224) (keptAt n (stepOf b) held)
     (Reading 4225, held))))
 
 -- one byte more; after the line feed or a wrong byte nothing changes

@@ -1,8 +1,8 @@
 // What the program maskwalk prints for an input of any size, which comes in parts.
-mod keep;
+mod input;
 mod lines;
 
-use keep::take_byte;
+use input::take_byte;
 use lines::put;
 use lines::write_lines;
 use walking::steps::take_all;

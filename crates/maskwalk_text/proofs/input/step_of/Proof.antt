@@ -1,10 +1,8 @@
 -- Each arm is one test of the definition. Assumes nothing.
-use mathlib.Core.Path.{_≡_, refl}
 use borrow.Author.Tests.{ne-eqb}
 use Rattle.maskwalk_text.specs.Text.{stepOf}
-use borrow.Author.Needs.{needs}
-use Rattle.maskwalk_text.proofs.keep.step_of.Statement.{statement}
-use Rattle.maskwalk_text.proofs.keep.step_of.Tie as tie
+use Rattle.maskwalk_text.proofs.input.step_of.Statement.{statement}
+use Rattle.maskwalk_text.proofs.input.step_of.Tie as tie
 
 returns : tie.Need-returns
 unfolding stepOf

@@ -1,8 +1,8 @@
 -- Each arm is one clause of the definition. Assumes nothing.
 use Rattle.maskwalk_text.specs.Scan.{takeByte}
 use borrow.Author.Needs.{needs}
-use Rattle.maskwalk_text.proofs.keep.take_byte.Statement.{statement}
-use Rattle.maskwalk_text.proofs.keep.take_byte.Tie as tie
+use Rattle.maskwalk_text.proofs.input.take_byte.Statement.{statement}
+use Rattle.maskwalk_text.proofs.input.take_byte.Tie as tie
 
 enum-known-s : tie.Need-enum-known-s
 enum-known-s c = search needs

@@ -1,8 +1,9 @@
 // One byte of the input.
 use crate::Scan;
 ghost use mathlib.Core.Path.{_≡_};
+ghost use Prim.Native.Nat.{_<_};
 ghost use Rattle.maskwalk_text.specs.Text.{stepOf};
-ghost use Rattle.maskwalk_text.specs.Scan.{readByte, takeByte};
+ghost use Rattle.maskwalk_text.specs.Scan.{keptAt, readByte, takeByte};
 
 // The step byte of a letter, or 0.
 fn step_of(letter: u8) -> u8
@@ -19,13 +20,21 @@ fn step_of(letter: u8) -> u8
     }
 }
 
+// A byte to place n.
+fn keep(n: usize, b: u8, held: &mut [u8; 4224]) -> Scan
+    requires { ⌜ n < 4224 ⌝ }
+    ensures { λ r. ⌜ (r, now (held .exit)) ≡ keptAt n b (now (held .entry)) ⌝ }
+{
+    held[n] = b;
+    Scan::Reading(n + 1)
+}
+
 // A byte after n of them: of the start, or a letter.
 fn read_byte(n: usize, b: u8, held: &mut [u8; 4224]) -> Scan
     ensures { λ r. ⌜ (r, now (held .exit)) ≡ readByte n b (now (held .entry)) ⌝ }
 {
     if n < 128 {
-        held[n] = b;
-        return Scan::Reading(n + 1);
+        return keep(n, b, held);
     }
     if b == b'\n' {
         return Scan::Ended(n);
@@ -35,8 +44,7 @@ fn read_byte(n: usize, b: u8, held: &mut [u8; 4224]) -> Scan
         return Scan::Wrong;
     }
     if n < 4224 {
-        held[n] = step;
-        return Scan::Reading(n + 1);
+        return keep(n, step, held);
     }
     Scan::Reading(4225)
 }

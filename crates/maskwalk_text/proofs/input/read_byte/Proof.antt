@@ -2,18 +2,15 @@
 use borrow.Author.Tests.{lt-ltb, le-ltb, eq-eqb, ne-eqb}
 use Rattle.maskwalk_text.specs.Scan.{readByte}
 use borrow.Author.Needs.{needs}
-use Rattle.maskwalk_text.proofs.keep.read_byte.Statement.{statement}
-use Rattle.maskwalk_text.proofs.keep.read_byte.Tie as tie
+use Rattle.maskwalk_text.proofs.input.read_byte.Statement.{statement}
+use Rattle.maskwalk_text.proofs.input.read_byte.Tie as tie
 
-element-write-held : tie.Need-element-write-held
-element-write-held c = search needs
-
-add-t8 : tie.Need-add-t8
-add-t8 c = search needs
+keep-requires : tie.Need-keep-requires
+keep-requires c κs = search needs
 
 returns : tie.Need-returns
 unfolding readByte
-returns c = simp (lt-ltb _ _ (c .if1 .taken))
+returns c = rw (lt-ltb _ _ (c .before .before .if1 .taken)) (c .keep .ensures)
 
 returns-2 : tie.Need-returns-2
 unfolding readByte
@@ -28,17 +25,14 @@ returns-3 c =
     let s = c .before .step-of .ensures in
     simp (le-ltb _ _ (c .before .before .before .if1 .left), ne-eqb _ _ (c .before .before .if2 .left), ← s, eq-eqb _ _ (c .if3 .taken))
 
-element-write-held-2 : tie.Need-element-write-held-2
-element-write-held-2 c = search needs
-
-add-t11 : tie.Need-add-t11
-add-t11 c = search needs
+keep-requires-2 : tie.Need-keep-requires-2
+keep-requires-2 c κs = search needs
 
 returns-4 : tie.Need-returns-4
 unfolding readByte
 returns-4 c =
-    let s = c .before .before .step-of .ensures in
-    simp (le-ltb _ _ (c .before .before .before .before .if1 .left), ne-eqb _ _ (c .before .before .before .if2 .left), ← s, ne-eqb _ _ (c .before .if3 .left), lt-ltb _ _ (c .if4 .taken))
+    let s = c .before .before .before .before .step-of .ensures in
+    rw (le-ltb _ _ (c .before .before .before .before .before .before .if1 .left), ne-eqb _ _ (c .before .before .before .before .before .if2 .left), ← s, ne-eqb _ _ (c .before .before .before .if3 .left), lt-ltb _ _ (c .before .before .if4 .taken)) (c .keep2 .ensures)
 
 returns-5 : tie.Need-returns-5
 unfolding readByte
@@ -50,13 +44,11 @@ pub read-byte-spec : {M : Type 1} → statement M
 read-byte-spec =
     tie.close
     (tie.spec
-    element-write-held
-    add-t8
+    keep-requires
     returns
     returns-2
     step-of-requires
     returns-3
-    element-write-held-2
-    add-t11
+    keep-requires-2
     returns-4
     returns-5)
