@@ -1,5 +1,5 @@
 -- The message from the parcel's tag, the tag from the message, and what their comparison leaves. Assumes nothing.
-use mathlib.Core.Path.{_≡_, ap, _∙_}
+use mathlib.Core.Path.{_≡_, ap, ap₂, _∙_}
 use mathlib.Core.List.{_++_}
 use Prim.Native.Nat.{_-_}
 use native.Mathlib.Omega.{arith}
@@ -7,7 +7,7 @@ use lib.ListN.{length, take, drop, length-drop, length-take}
 use lib.Seq.{length-take-le, take-at}
 use denote.Ref.{now}
 use Rattle.words.proofs.Lists.{tailPart}
-use Rattle.blockplan.specs.Plan.{tagBytes, cipherPart, tagPart}
+use Rattle.blockplan.specs.Plan.{tagBytes, same, cipherPart, tagPart}
 use Rattle.mro.specs.Mro.{mroTag, mroCipher}
 use Rattle.mro.proofs.Parts.{opened-as}
 use Rattle.mro.proofs.Opened.{length-mroCipher}
@@ -81,8 +81,10 @@ returns c =
     let long : length message ≡ n = length-mroCipher rounds first (tagPart parcel) (cipherPart parcel) ∙ short in
     let streamed : out ≡ message ++ drop n old = rw (tag, short) at (stream .ensures) in
     let front : take n out ≡ message = ap (take n) streamed ∙ take-at message (drop n old) n long in
+    let tag-block = c .before .before .before .before .before .before .tag-block in
+    let expected : tagBytes (tag-block .result) ≡ mroTag rounds first (now (start .args .header)) message = rw (tag-block .ensures, front) in
     opened-as n message (mroTag rounds first (now (start .args .header)) message) (tagPart parcel) old out (c .before .before .keep .last .0) (c .before .before .before .before .same-tag .result) long streamed
-    (rw (c .before .before .before .before .before .before .tag-block .ensures, front, tailPart n parcel) at (c .before .before .before .before .same-tag .ensures))
+    (c .before .before .before .before .same-tag .ensures ∙ ap₂ same expected (tailPart n parcel))
     (c .before .before .keep .ensures)
 
 pub open-spec : {M : Type 1} → statement M

@@ -1,7 +1,12 @@
 -- The calls, one inside the other. Assumes nothing.
+use mathlib.Core.Path.{ap}
+use mathlib.Core.List.{List}
+use Prim.Native.Nat.{ℕ}
 use Rattle.words.specs.Sequence.{tab, zeros, times}
+use Rattle.words.specs.Block.{xorBlock}
+use Rattle.masks.specs.Steps.{beta}
 use Rattle.masks.proofs.Arrays.{array-block}
-use Rattle.mem.specs.Mem.{maskAt, encipher}
+use Rattle.mem.specs.Mem.{maskAt, under, encipher}
 use Rattle.mro.specs.Mro.{lengths}
 use Rattle.mro.proofs.Absorbed.{sum-is}
 use denote.Ref.{now}
@@ -34,6 +39,10 @@ returns : tie.Need-returns
 unfolding encipher maskAt times lengths zeros tab
 returns c =
     let start = c .before .before .before .before .before .before .before .before .before in
+    let rounds = start .args .rounds in
+    let first = start .args .start in
+    let header = now (start .args .header) in
+    let message = now (start .args .message) in
     rw (
       c .encipher .ensures,
       c .before .beta2 .ensures,
@@ -42,8 +51,8 @@ returns c =
       c .before .before .before .before .absorb-all2 .ensures,
       c .before .before .before .before .before .absorb-all .ensures,
       c .before .before .before .before .before .before .beta .ensures,
-      sum-is _ (start .args .start) (now (start .args .header)) (now (start .args .message)) (array-block _ _ (start .good .0)),
     )
+    (ap (λ (sum : List ℕ). under rounds (beta (beta first)) (xorBlock sum (lengths header message))) (sum-is rounds first header message (array-block _ _ (start .good .0))))
 
 pub tag-block-spec : {M : Type 1} → statement M
 tag-block-spec =
