@@ -105,12 +105,12 @@ parted s h =
     ∙ pieces 128 (whole s) s)
     ∙ take-append-drop (128 * whole s) s
 
--- what undoes each block undoes the whole
-pub ciphered-undo : (f h : ℕ → List ℕ → List ℕ) (stream : ℕ → List ℕ) (s : List ℕ) → Bytes s
-    → ((i : ℕ) (b : List ℕ) → Block b → Block (f i b)) → ((i : ℕ) (b : List ℕ) → Block b → h i (f i b) ≡ b)
+-- what undoes each whole block undoes the whole
+pub ciphered-undo-below : (f h : ℕ → List ℕ → List ℕ) (stream : ℕ → List ℕ) (s : List ℕ) → Bytes s
+    → ((i : ℕ) → i < whole s → (b : List ℕ) → Block b → Block (f i b)) → ((i : ℕ) → i < whole s → (b : List ℕ) → Block b → h i (f i b) ≡ b)
     → ciphered h stream (ciphered f stream s) ≡ s
 unfolding cipheredAt
-ciphered-undo f h stream s bytes keeps undo =
+ciphered-undo-below f h stream s bytes keeps undo =
     let c = ciphered f stream s in
     ciphered-is h stream c
     ∙ ap₂ (λ (a b : List ℕ). a ++ b)
@@ -121,5 +121,10 @@ ciphered-undo f h stream s bytes keeps undo =
   where
     back : (i : ℕ) → i < whole s → cipheredAt h stream (ciphered f stream s) i ≡ bytesOf (blockAt s i)
     back i p =
-        ap (λ (b : List ℕ). bytesOf (h i b)) (blockAt-ciphered f stream s i p (keeps i (blockAt s i) (block-blockAt s i bytes)))
-        ∙ ap bytesOf (undo i (blockAt s i) (block-blockAt s i bytes))
+        ap (λ (b : List ℕ). bytesOf (h i b)) (blockAt-ciphered f stream s i p (keeps i p (blockAt s i) (block-blockAt s i bytes)))
+        ∙ ap bytesOf (undo i p (blockAt s i) (block-blockAt s i bytes))
+
+pub ciphered-undo : (f h : ℕ → List ℕ → List ℕ) (stream : ℕ → List ℕ) (s : List ℕ) → Bytes s
+    → ((i : ℕ) (b : List ℕ) → Block b → Block (f i b)) → ((i : ℕ) (b : List ℕ) → Block b → h i (f i b) ≡ b)
+    → ciphered h stream (ciphered f stream s) ≡ s
+ciphered-undo f h stream s bytes keeps undo = ciphered-undo-below f h stream s bytes (λ i p. keeps i) (λ i p. undo i)

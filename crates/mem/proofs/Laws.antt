@@ -1,17 +1,20 @@
 -- Laws of the masks (i, j, k), of E and of D. Assumes nothing.
-use mathlib.Core.Path.{_≡_, refl, sym, ap, ap₂, _∙_}
-use mathlib.Core.List.{List}
-use Prim.Native.Nat.{ℕ, zero, suc, _+_}
-use native.Mathlib.Numerals.{add-one}
-use Rattle.words.specs.Sequence.{times}
-use Rattle.words.specs.Block.{Block, xorBlock}
-use Rattle.words.proofs.Blocks.{xor-block, xorBlock-cancel}
+use mathlib.Core.Path.{_≡_, refl, sym, ap, _∙_, subst}
+use mathlib.Core.List.{List, [], _∷_, _++_}
+use Prim.Native.Nat.{ℕ, zero, suc, _^_, _<_}
+use native.Mathlib.Omega.{arith}
+use lib.Dec.{lit<}
+use lib.ListN.{length, getD, length-append}
+use Rattle.words.specs.Sequence.{tab, times, zeros}
+use Rattle.words.specs.Block.{Block, Bytes, wordAt, blockOf, xorBlock}
+use Rattle.words.proofs.Lists.{length-tab, getD-tab}
+use Rattle.words.proofs.Blocks.{xor-block, xorBlock-cancel, below-tab, block-blockOf}
 use Rattle.words.proofs.Times.{times-keeps, times-commute}
 use Rattle.permutation.specs.Permutation.{perm, unPerm}
 use Rattle.permutation.proofs.Undone.{perm-block, unPerm-block, unPerm-perm, perm-unPerm}
 use Rattle.masks.specs.Steps.{alpha, beta, gamma}
 use Rattle.masks.proofs.Laws.{alpha-step, beta-step, gamma-step, alpha-beta, alpha-gamma}
-use Rattle.mem.specs.Mem.{maskAt, under, unUnder, encipher, decipher}
+use Rattle.mem.specs.Mem.{startBlock, startOf, maskAt, under, unUnder, encipher, decipher}
 
 -- ---- masks
 
@@ -77,3 +80,25 @@ module _ (n : ℕ) (start block : List ℕ) (l : Block start) (b : Block block) 
   pub encipher-decipher : encipher n start i j k (decipher n start i j k block) ≡ block
   unfolding encipher decipher
   encipher-decipher = under-unUnder n (maskAt start i j k) block (mask-block start l i j k) b
+
+-- ---- the start
+
+word-lt : (s : List ℕ) → Bytes s → (i : ℕ) → i < 16 → wordAt s i < 2 ^ 64
+unfolding blockOf
+word-lt s h i p = subst (λ (w : ℕ). w < 2 ^ 64) (getD-tab (wordAt s) 16 i p) (block-blockOf s h .words i)
+
+below-append : (m : ℕ) (s t : List ℕ) → ((i : ℕ) → getD s i 0 < m) → ((i : ℕ) → getD t i 0 < m) → (i : ℕ) → getD (s ++ t) i 0 < m
+below-append m [] t hs ht i = ht i
+below-append m (x ∷ s) t hs ht zero = hs 0
+below-append m (x ∷ s) t hs ht (suc i) = below-append m s t (λ j. hs (suc j)) ht i
+
+pub start-block : (rounds : ℕ) (key nonce : List ℕ) → Bytes key → Bytes nonce → Block (startOf rounds key nonce)
+unfolding startOf startBlock zeros
+start-block rounds key nonce hk hn =
+    perm-block rounds (startBlock key nonce) (record {
+      long = simp (length-append, length-tab);
+      words = below-append (2 ^ 64) (tab (wordAt nonce) 2) (tab (λ i. 0) 10 ++ tab (wordAt key) 4)
+        (below-tab (wordAt nonce) 2 (2 ^ 64) (lit< tt) (λ i p. word-lt nonce hn i (omega arith)))
+        (below-append (2 ^ 64) (tab (λ i. 0) 10) (tab (wordAt key) 4) (below-tab (λ i. 0) 10 (2 ^ 64) (lit< tt) (λ i p. lit< tt))
+        (below-tab (wordAt key) 4 (2 ^ 64) (lit< tt) (λ i p. word-lt key hk i (omega arith))))
+    })

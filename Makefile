@@ -1,0 +1,36 @@
+# make        the archive, the header and a pkg-config file, in dist/
+# make demo   builds what is missing and shows the main job
+# make test   the gate: proofs, must-fail edits, and the checks of the machine code
+# make bench  measures, and writes docs/BENCHMARKS.md
+.DEFAULT_GOAL := dist
+.PHONY: dist demo test bench planted tools clean
+
+# What the checks need beside the toolchain, cargo and gcc, by the program and its Debian package.
+tools:
+	@tools/need.sh valgrind valgrind
+
+dist:
+	@tools/need.sh rt '' && rt staticlib calmbaize >target.staticlib.log 2>&1 || { cat target.staticlib.log; rm -f target.staticlib.log; exit 1; }
+	@rm -f target.staticlib.log
+	@tools/make-dist.sh target/staticlib/libcalmbaize.a
+	@echo "dist: the archive, the header and a pkg-config file are in dist/"
+
+demo: dist
+	@tools/need.sh cargo cargo
+	@cd rust && cargo build --offline --release --quiet --package cli
+	@tools/demo.sh rust/target/release/calmbaize
+
+test: tools
+	@.ci/run
+
+bench: dist
+	@tools/need.sh cargo cargo
+	@tools/need.sh pkg:libsodium-dev libsodium-dev
+	@cd rust && cargo run --offline --release --quiet --package bench
+
+# Every outside check seen to fail on a library with a fault in it.
+planted: tools
+	@tools/planted.sh
+
+clean:
+	rm -rf target dist rust/target

@@ -1,0 +1,36 @@
+/*
+ * The same construction written by hand in scalar C: what the library's speed
+ * is measured against. The four calls answer as those of calmbaize.h do.
+ */
+#ifndef BASELINE_H
+#define BASELINE_H
+
+#include <stddef.h>
+#include <stdint.h>
+
+uint64_t baseline_seal(uint32_t mode, uint32_t rounds,
+                       const uint8_t *key, size_t key_len,
+                       const uint8_t *nonce, size_t nonce_len,
+                       const uint8_t *header, size_t header_len,
+                       const uint8_t *input, size_t input_len,
+                       uint8_t *output, size_t output_len);
+
+uint64_t baseline_open(uint32_t mode, uint32_t rounds,
+                       const uint8_t *key, size_t key_len,
+                       const uint8_t *nonce, size_t nonce_len,
+                       const uint8_t *header, size_t header_len,
+                       const uint8_t *input, size_t input_len,
+                       uint8_t *output, size_t output_len);
+
+uint64_t baseline_walk(const uint8_t *start, size_t start_len,
+                       const uint8_t *steps, size_t steps_len,
+                       uint8_t *output, size_t output_len);
+
+uint64_t baseline_jump(const uint8_t *start, size_t start_len,
+                       int32_t alpha, int32_t beta, int32_t gamma,
+                       uint8_t *output, size_t output_len);
+
+/* The BLAKE2b permutation, any number of rounds. */
+void baseline_permute(uint32_t rounds, uint64_t s[16]);
+
+#endif

@@ -1,0 +1,20 @@
+-- The promise of the scan: its parts do not matter. Assumes nothing.
+use mathlib.Core.Path.{_≡_}
+use mathlib.Core.Bool.{false}
+use mathlib.Core.List.{List, flatten}
+use Prim.Native.Nat.{ℕ}
+use lib.ListN.{length}
+use Rattle.maskwalk_text.specs.declared.Scan.{Scan}
+use Rattle.maskwalk_text.specs.declared.Scan.the-variants.{Reading}
+use Rattle.maskwalk_text.specs.Text.{textOf}
+use Rattle.maskwalk_text.specs.Scan.{isOpen, feeds, report, written}
+
+-- what is written at the end, after all the parts of an input
+unfoldable pub afterParts : List (List ℕ) → List ℕ → List ℕ → ℕ × List ℕ
+afterParts parts held out = let end = feeds parts (Reading 0) held in written (report (end .0) (end .1)) out
+
+pub record Whole : Type 0 where
+  -- for every list of parts, it is the text of the whole input, whatever the buffer held before
+  pub whole : (parts : List (List ℕ)) (held out : List ℕ) → length held ≡ 4224 → afterParts parts held out ≡ written (textOf (flatten parts)) out
+  -- once the scan is closed, no part to come changes it: the rest of the input need not be read
+  pub closed : (parts : List (List ℕ)) (s : Scan) (held : List ℕ) → isOpen s ≡ false → feeds parts s held ≡ (s, held)

@@ -1,0 +1,38 @@
+//! Compiles `c/baseline.c` with the system's C compiler.
+
+use std::env;
+use std::ffi::OsString;
+use std::path::{Path, PathBuf};
+use std::process::Command;
+
+fn main() {
+    let source = Path::new(&variable("CARGO_MANIFEST_DIR")).join("../../c");
+    let out = PathBuf::from(variable("OUT_DIR"));
+    for file in ["baseline.c", "baseline.h"] {
+        println!("cargo::rerun-if-changed={}", source.join(file).display());
+    }
+    println!("cargo::rerun-if-env-changed=CC");
+    let compiler = env::var_os("CC").unwrap_or_else(|| "cc".into());
+    let object = out.join("baseline.o");
+    let mut compile = Command::new(compiler);
+    compile.args(["-std=c99", "-O3", "-fPIC", "-c", "-o"]);
+    run(compile.arg(&object).arg(source.join("baseline.c")));
+    run(Command::new("ar")
+        .arg("crs")
+        .arg(out.join("libbaseline.a"))
+        .arg(&object));
+    println!("cargo::rustc-link-search=native={}", out.display());
+    println!("cargo::rustc-link-lib=static=baseline");
+}
+
+fn variable(name: &str) -> OsString {
+    env::var_os(name).unwrap_or_else(|| panic!("cargo sets {name}"))
+}
+
+fn run(command: &mut Command) {
+    match command.status() {
+        Ok(status) if status.success() => {}
+        Ok(status) => println!("cargo::error={command:?} ended with {status}"),
+        Err(error) => println!("cargo::error={command:?} did not start: {error}"),
+    }
+}

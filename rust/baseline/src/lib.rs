@@ -1,0 +1,78 @@
+//! The calls of `c/baseline.h`, which answer as those of `calmbaize.h` do.
+
+#![no_std]
+
+/// The type of seal and open: mode and rounds, then key, nonce, header, input and output, each
+/// with its length.
+pub type Sealing = unsafe extern "C" fn(
+    u32,
+    u32,
+    *const u8,
+    usize,
+    *const u8,
+    usize,
+    *const u8,
+    usize,
+    *const u8,
+    usize,
+    *mut u8,
+    usize,
+) -> u64;
+
+extern "C" {
+    /// Seals; the arguments are those of `calmbaize_seal`.
+    pub fn baseline_seal(
+        mode: u32,
+        rounds: u32,
+        key: *const u8,
+        key_len: usize,
+        nonce: *const u8,
+        nonce_len: usize,
+        header: *const u8,
+        header_len: usize,
+        input: *const u8,
+        input_len: usize,
+        output: *mut u8,
+        output_len: usize,
+    ) -> u64;
+
+    /// Opens; the arguments are those of `calmbaize_open`.
+    pub fn baseline_open(
+        mode: u32,
+        rounds: u32,
+        key: *const u8,
+        key_len: usize,
+        nonce: *const u8,
+        nonce_len: usize,
+        header: *const u8,
+        header_len: usize,
+        input: *const u8,
+        input_len: usize,
+        output: *mut u8,
+        output_len: usize,
+    ) -> u64;
+
+    /// Walks; the arguments are those of `calmbaize_walk`.
+    pub fn baseline_walk(
+        start: *const u8,
+        start_len: usize,
+        steps: *const u8,
+        steps_len: usize,
+        output: *mut u8,
+        output_len: usize,
+    ) -> u64;
+
+    /// Jumps; the arguments are those of `calmbaize_jump`.
+    pub fn baseline_jump(
+        start: *const u8,
+        start_len: usize,
+        alpha: i32,
+        beta: i32,
+        gamma: i32,
+        output: *mut u8,
+        output_len: usize,
+    ) -> u64;
+
+    /// The BLAKE2b permutation, any number of rounds.
+    pub fn baseline_permute(rounds: u32, s: *mut [u64; 16]);
+}

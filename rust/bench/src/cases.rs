@@ -1,0 +1,193 @@
+//! What is measured: implementations, settings, calls and lengths.
+
+use crate::sodium::Sodium;
+use baseline::Sealing;
+use std::fmt;
+
+/// Message lengths in bytes. The first is a sale record.
+pub const LENGTHS: [usize; 5] = [13, 128, 1024, 4096, 65_536];
+
+const KEY: [u8; 32] = [0x42; 32];
+const NONCE: [u8; 24] = [0x24; 24];
+
+/// Who does the work.
+#[derive(Clone, Copy, Debug, PartialEq, Eq)]
+pub enum Implementation {
+    Library,
+    ScalarC,
+    Reference,
+    XChaCha,
+    AesGcm,
+}
+
+impl fmt::Display for Implementation {
+    fn fmt(&self, f: &mut fmt::Formatter<'_>) -> fmt::Result {
+        f.write_str(match self {
+            Self::Library => "Calmbaize",
+            Self::ScalarC => "scalar C",
+            Self::Reference => "second implementation",
+            Self::XChaCha => "XChaCha20-Poly1305",
+            Self::AesGcm => "AES-256-GCM",
+        })
+    }
+}
+
+/// Mode and round count; libsodium's ciphers have none.
+pub type Setting = Option<(u32, u32)>;
+
+/// The name of a setting.
+pub fn setting_name(setting: Setting) -> String {
+    match setting {
+        Some((1, rounds)) => format!("OPP, {rounds} rounds"),
+        Some((_, rounds)) => format!("MRO, {rounds} rounds"),
+        None => "libsodium".into(),
+    }
+}
+
+/// Modes and round counts.
+pub const SETTINGS: [Setting; 4] = [Some((1, 4)), Some((1, 6)), Some((2, 4)), Some((2, 6))];
+
+/// Which call is made.
+#[derive(Clone, Copy, Debug, PartialEq, Eq)]
+pub enum Operation {
+    Seal,
+    Open,
+    /// Opening a parcel whose tag differs.
+    Refuse,
+}
+
+impl fmt::Display for Operation {
+    fn fmt(&self, f: &mut fmt::Formatter<'_>) -> fmt::Result {
+        f.write_str(match self {
+            Self::Seal => "seal",
+            Self::Open => "open",
+            Self::Refuse => "open, refused",
+        })
+    }
+}
+
+/// Which calls are made.
+pub const OPERATIONS: [Operation; 3] = [Operation::Seal, Operation::Open, Operation::Refuse];
+
+/// A case's name.
+#[derive(Clone, Copy, Debug, PartialEq, Eq)]
+pub struct Key {
+    pub implementation: Implementation,
+    pub setting: Setting,
+    pub operation: Operation,
+    pub len: usize,
+}
+
+/// A case: its name and the call it measures, which returns the bytes written.
+pub struct Case {
+    pub key: Key,
+    pub call: Box<dyn FnMut() -> u64>,
+}
+
+/// All cases, the empty message included. Those that are compared stand side by side.
+pub fn all(sodium: Option<&Sodium>) -> Vec<Case> {
+    let mut cases = Vec::new();
+    for operation in OPERATIONS {
+        for len in [0].into_iter().chain(LENGTHS) {
+            for setting in SETTINGS {
+                for seal_open in SealOpen::all() {
+                    cases.push(seal_open.case(setting, operation, len));
+                }
+            }
+            cases.extend(
+                sodium
+                    .iter()
+                    .flat_map(|sodium| sodium.cases(operation, len)),
+            );
+        }
+    }
+    cases
+}
+
+/// An implementation of this construction.
+#[derive(Clone, Copy)]
+enum SealOpen {
+    Foreign(Implementation, Sealing, Sealing),
+    Reference,
+}
+
+impl SealOpen {
+    fn all() -> Vec<Self> {
+        vec![
+            #[cfg(feature = "archive")]
+            Self::Foreign(
+                Implementation::Library,
+                calmbaize::ffi::calmbaize_seal,
+                calmbaize::ffi::calmbaize_open,
+            ),
+            Self::Foreign(
+                Implementation::ScalarC,
+                baseline::baseline_seal,
+                baseline::baseline_open,
+            ),
+            Self::Reference,
+        ]
+    }
+
+    fn case(self, setting: Setting, operation: Operation, len: usize) -> Case {
+        let implementation = match self {
+            Self::Foreign(implementation, ..) => implementation,
+            Self::Reference => Implementation::Reference,
+        };
+        let settings = setting.expect("a mode and a round count");
+        let (message, mut parcel) = (vec![0x5a; len], vec![0; len + 32]);
+        self.run(settings, true, &message, &mut parcel);
+        if operation == Operation::Refuse {
+            parcel[len] ^= 1;
+        }
+        let sealing = operation == Operation::Seal;
+        let (input, mut output) = if sealing {
+            (message, parcel)
+        } else {
+            (parcel, message)
+        };
+        Case {
+            key: Key {
+                implementation,
+                setting,
+                operation,
+                len,
+            },
+            call: Box::new(move || self.run(settings, sealing, &input, &mut output)),
+        }
+    }
+
+    fn run(self, (mode, rounds): (u32, u32), seal: bool, input: &[u8], output: &mut [u8]) -> u64 {
+        let nonce = &NONCE[..16];
+        match self {
+            Self::Foreign(_, seal_fn, open_fn) => {
+                let call = if seal { seal_fn } else { open_fn };
+                // SAFETY: each pointer is valid for its length, and the output overlaps nothing.
+                unsafe {
+                    call(
+                        mode,
+                        rounds,
+                        KEY.as_ptr(),
+                        KEY.len(),
+                        nonce.as_ptr(),
+                        nonce.len(),
+                        std::ptr::null(),
+                        0,
+                        input.as_ptr(),
+                        input.len(),
+                        output.as_mut_ptr(),
+                        output.len(),
+                    )
+                }
+            }
+            Self::Reference => {
+                let call = if seal {
+                    reference::seal
+                } else {
+                    reference::open
+                };
+                call(mode, rounds, &KEY, nonce, &[], input, output).unwrap_or(0) as u64
+            }
+        }
+    }
+}

@@ -1,0 +1,99 @@
+//! Timing the cases in turn.
+
+use crate::cases::{Case, Key};
+use std::arch::x86_64::{_mm_lfence, _rdtsc};
+use std::hint::black_box;
+use std::time::{Duration, Instant};
+
+/// A batch of calls takes about this many cycles or more, well above the cost of the two readings.
+const BATCH_CYCLES: u64 = 100_000;
+
+/// The cycles per call of every case, batch by batch.
+pub struct Samples {
+    series: Vec<(Key, Vec<f64>)>,
+}
+
+impl Samples {
+    /// Times `batches` batches of every case. The cases take turns, so that what slows the machine
+    /// for a while slows them all.
+    pub fn take(cases: &mut [Case], batches: usize) -> Self {
+        let sizes: Vec<u64> = cases.iter_mut().map(batch_size).collect();
+        let mut series: Vec<(Key, Vec<f64>)> =
+            cases.iter().map(|case| (case.key, Vec::new())).collect();
+        let begin = Instant::now();
+        for batch in 1..=batches {
+            for ((case, size), (_, samples)) in cases.iter_mut().zip(&sizes).zip(&mut series) {
+                samples.push(time(case, *size) as f64 / *size as f64);
+            }
+            if batch % 100 == 0 {
+                let seconds = begin.elapsed().as_secs_f64();
+                eprintln!("bench: {batch} of {batches} batches, {seconds:.0} s");
+            }
+        }
+        Self { series }
+    }
+
+    fn of(&self, key: Key) -> Option<&[f64]> {
+        let found = self.series.iter().find(|(k, _)| *k == key);
+        found.map(|(_, samples)| samples.as_slice())
+    }
+
+    /// The median cycles per call.
+    pub fn cycles(&self, key: Key) -> Option<f64> {
+        self.of(key).map(|samples| median(samples.to_vec()))
+    }
+
+    /// The median, over the batches, of one case's time by another's.
+    pub fn ratio(&self, key: Key, by: Key) -> Option<f64> {
+        let pairs = self.of(key)?.iter().zip(self.of(by)?);
+        Some(median(pairs.map(|(a, b)| a / b).collect()))
+    }
+
+    /// The median of one case's time by another's, both without that of a third.
+    pub fn ratio_above(&self, key: Key, by: Key, floor: Key) -> Option<f64> {
+        let triples = self.of(key)?.iter().zip(self.of(by)?).zip(self.of(floor)?);
+        Some(median(
+            triples
+                .map(|((a, b), floor)| (a - floor) / (b - floor))
+                .collect(),
+        ))
+    }
+}
+
+fn batch_size(case: &mut Case) -> u64 {
+    let cycles = (0..5).map(|_| time(case, 1)).min().unwrap_or(1);
+    (BATCH_CYCLES / cycles.max(1)).max(1)
+}
+
+/// The cycles of `calls` calls, after one that brings code and buffers into the caches.
+fn time(case: &mut Case, calls: u64) -> u64 {
+    black_box((case.call)());
+    let begin = clock();
+    for _ in 0..calls {
+        black_box((case.call)());
+    }
+    clock() - begin
+}
+
+/// The time stamp counter, once all that stands before is done.
+fn clock() -> u64 {
+    // SAFETY: every x86-64 processor has both instructions.
+    unsafe {
+        _mm_lfence();
+        let cycles = _rdtsc();
+        _mm_lfence();
+        cycles
+    }
+}
+
+fn median(mut values: Vec<f64>) -> f64 {
+    values.sort_by(f64::total_cmp);
+    values[values.len() / 2]
+}
+
+/// The counter's speed in GHz.
+pub fn counter_speed() -> f64 {
+    let (begin, cycles) = (Instant::now(), clock());
+    std::thread::sleep(Duration::from_millis(50));
+    (clock() - cycles) as f64 / begin.elapsed().as_nanos() as f64
+}

@@ -1,0 +1,157 @@
+//! The picture: cycles per byte over length, both scales logarithmic.
+
+use crate::cases::{setting_name, Implementation, Key, Operation, Setting, LENGTHS, SETTINGS};
+use crate::measure::Samples;
+use crate::table::grouped;
+use std::fmt::Write;
+
+const WIDTH: f64 = 860.0;
+const HEIGHT: f64 = 520.0;
+const LEFT: f64 = 64.0;
+const RIGHT: f64 = 600.0;
+const TOP: f64 = 48.0;
+const BOTTOM: f64 = 460.0;
+const TICKS: [f64; 8] = [0.5, 1.0, 2.0, 5.0, 10.0, 20.0, 50.0, 100.0];
+const COLOURS: [&str; 6] = [
+    "#0072b2", "#56b4e9", "#d55e00", "#e69f00", "#009e73", "#555555",
+];
+
+struct Line {
+    name: String,
+    colour: &'static str,
+    dashed: bool,
+    points: Vec<(f64, f64)>,
+}
+
+/// The picture of sealing, as SVG.
+pub fn svg(samples: &Samples) -> String {
+    let mut svg = format!(
+        "<svg xmlns=\"http://www.w3.org/2000/svg\" viewBox=\"0 0 {WIDTH} {HEIGHT}\" \
+         font-family=\"sans-serif\" font-size=\"13\">\n\
+         <rect width=\"100%\" height=\"100%\" fill=\"white\"/>\n"
+    );
+    text(
+        &mut svg,
+        LEFT,
+        24.0,
+        "start",
+        "Sealing: cycles per byte over message length in bytes",
+    );
+    axes(&mut svg);
+    for (i, line) in lines(samples).iter().enumerate() {
+        draw(&mut svg, line, 70.0 + 24.0 * i as f64);
+    }
+    svg.push_str("</svg>\n");
+    svg
+}
+
+fn lines(samples: &Samples) -> Vec<Line> {
+    let mut lines = Vec::new();
+    let mut add = |implementation: Implementation, setting, colour, dashed| {
+        let name = match setting {
+            Some(_) => format!("{}, {implementation}", setting_name(setting)),
+            None => implementation.to_string(),
+        };
+        let points = points(samples, implementation, setting);
+        if !points.is_empty() {
+            lines.push(Line {
+                name,
+                colour,
+                dashed,
+                points,
+            });
+        }
+    };
+    for (setting, colour) in SETTINGS.into_iter().zip(COLOURS) {
+        add(Implementation::Library, setting, colour, false);
+        add(Implementation::ScalarC, setting, colour, true);
+    }
+    add(Implementation::XChaCha, None, COLOURS[4], false);
+    add(Implementation::AesGcm, None, COLOURS[5], false);
+    lines
+}
+
+fn points(samples: &Samples, implementation: Implementation, setting: Setting) -> Vec<(f64, f64)> {
+    let operation = Operation::Seal;
+    let cycles = |len| {
+        samples.cycles(Key {
+            implementation,
+            setting,
+            operation,
+            len,
+        })
+    };
+    let lengths = LENGTHS.into_iter();
+    lengths
+        .filter_map(|len| cycles(len).map(|cycles| (len as f64, cycles / len as f64)))
+        .collect()
+}
+
+/// The places of a length and of a figure in the picture.
+fn place(len: f64, figure: f64) -> (f64, f64) {
+    let across = (len / 8.0).ln() / (131_072.0f64 / 8.0).ln();
+    let up = (figure / TICKS[0]).ln() / (TICKS[TICKS.len() - 1] / TICKS[0]).ln();
+    (LEFT + across * (RIGHT - LEFT), BOTTOM - up * (BOTTOM - TOP))
+}
+
+fn axes(svg: &mut String) {
+    for tick in TICKS {
+        let (_, y) = place(8.0, tick);
+        rule(svg, (LEFT, y), (RIGHT, y));
+        text(svg, LEFT - 8.0, y + 4.0, "end", &tick.to_string());
+    }
+    for len in LENGTHS {
+        let (x, _) = place(len as f64, 1.0);
+        rule(svg, (x, TOP), (x, BOTTOM));
+        text(svg, x, BOTTOM + 20.0, "middle", &grouped(len));
+    }
+}
+
+fn rule(svg: &mut String, (x1, y1): (f64, f64), (x2, y2): (f64, f64)) {
+    push(
+        svg,
+        format_args!(
+            "<line x1=\"{x1:.1}\" y1=\"{y1:.1}\" x2=\"{x2:.1}\" y2=\"{y2:.1}\" stroke=\"#ddd\"/>"
+        ),
+    );
+}
+
+fn text(svg: &mut String, x: f64, y: f64, anchor: &str, content: &str) {
+    push(
+        svg,
+        format_args!("<text x=\"{x:.1}\" y=\"{y:.1}\" text-anchor=\"{anchor}\">{content}</text>"),
+    );
+}
+
+/// The line itself, and its entry in the legend at height `y`.
+fn draw(svg: &mut String, line: &Line, y: f64) {
+    let dash = if line.dashed {
+        " stroke-dasharray=\"5 4\""
+    } else {
+        ""
+    };
+    let path = |points: &[(f64, f64)]| {
+        let places = points.iter().map(|(x, y)| format!("{x:.1},{y:.1}"));
+        places.collect::<Vec<_>>().join(" ")
+    };
+    let curve: Vec<_> = line
+        .points
+        .iter()
+        .map(|&(len, figure)| place(len, figure))
+        .collect();
+    for points in [curve, vec![(RIGHT + 14.0, y), (RIGHT + 42.0, y)]] {
+        push(
+            svg,
+            format_args!(
+                "<polyline points=\"{}\" fill=\"none\" stroke=\"{}\" stroke-width=\"2\"{dash}/>",
+                path(&points),
+                line.colour,
+            ),
+        );
+    }
+    text(svg, RIGHT + 50.0, y + 4.0, "start", &line.name);
+}
+
+fn push(svg: &mut String, element: std::fmt::Arguments) {
+    writeln!(svg, "{element}").expect("a string takes all");
+}

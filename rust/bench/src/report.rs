@@ -1,0 +1,235 @@
+//! The page of results.
+
+use crate::cases::{setting_name, Implementation, Key, Operation, Setting};
+use crate::cases::{LENGTHS, OPERATIONS, SETTINGS};
+use crate::measure::Samples;
+use crate::table::{grouped, Table};
+use std::fmt::Write;
+
+const CONSTRUCTION: [Implementation; 3] = [
+    Implementation::Library,
+    Implementation::ScalarC,
+    Implementation::Reference,
+];
+const SODIUM: [Implementation; 2] = [Implementation::XChaCha, Implementation::AesGcm];
+
+/// Where and when it was measured.
+pub struct Setup {
+    pub date: String,
+    pub processor: String,
+    pub gigahertz: f64,
+    pub batches: usize,
+    /// Seconds of the gate by crate.
+    pub gate: Vec<(String, String)>,
+}
+
+/// The page, as Markdown.
+pub fn page(setup: &Setup, samples: &Samples) -> String {
+    let mut page = format!(
+        "# Benchmarks\n\n\
+         Measured on {} on an {} by `make bench`. Cycles are those of the time stamp counter, \
+         {:.2} GHz. Each figure is the median of {} batches of calls; the implementations take \
+         turns batch by batch. Headers are empty.\n\n\
+         ![Cycles per byte over length](benchmarks.svg)\n\n",
+        setup.date, setup.processor, setup.gigahertz, setup.batches,
+    );
+    let per_byte = |cycles: f64, len: usize| format!("{:.2}", cycles / len as f64);
+    let per_call = |cycles: f64, _: usize| grouped(cycles.round() as usize);
+    section(&mut page, "Cycles per byte", &figures(samples, per_byte));
+    section(&mut page, "Cycles per call", &figures(samples, per_call));
+    section(&mut page, "Ratios", &ratios(samples));
+    section(
+        &mut page,
+        "Growth from 4 KiB to 64 KiB, by linear growth",
+        &growth(samples),
+    );
+    section(
+        &mut page,
+        "The paper's table 2, cycles per byte for long messages",
+        &paper(),
+    );
+    if !setup.gate.is_empty() {
+        let mut table = Table::new(1, &["crate", "seconds"]);
+        for (name, seconds) in &setup.gate {
+            table.row(vec![name.clone(), seconds.clone()]);
+        }
+        section(&mut page, "The gate's time by crate", &table);
+    }
+    page
+}
+
+fn section(page: &mut String, title: &str, table: &Table) {
+    write!(page, "## {title}\n\n{table}\n").expect("a string takes all");
+}
+
+/// Every case, one row for all its lengths.
+fn figures(samples: &Samples, figure: impl Fn(f64, usize) -> String) -> Table {
+    let lengths = LENGTHS.map(grouped);
+    let mut heading = vec!["", "call", "implementation"];
+    heading.extend(lengths.iter().map(String::as_str));
+    let mut table = Table::new(3, &heading);
+    let groups = SETTINGS.map(|setting| (setting, &CONSTRUCTION[..]));
+    for (setting, implementations) in groups.into_iter().chain([(None, &SODIUM[..])]) {
+        for operation in OPERATIONS {
+            for &implementation in implementations {
+                let cells = LENGTHS.map(|len| {
+                    let key = Key {
+                        implementation,
+                        setting,
+                        operation,
+                        len,
+                    };
+                    samples.cycles(key).map(|cycles| figure(cycles, len))
+                });
+                if cells.iter().all(Option::is_some) {
+                    let names = [
+                        setting_name(setting),
+                        operation.to_string(),
+                        implementation.to_string(),
+                    ];
+                    table.row(
+                        names
+                            .into_iter()
+                            .chain(cells.into_iter().flatten())
+                            .collect(),
+                    );
+                }
+            }
+        }
+    }
+    table
+}
+
+fn library(setting: Setting, operation: Operation, len: usize) -> Key {
+    Key {
+        implementation: Implementation::Library,
+        setting,
+        operation,
+        len,
+    }
+}
+
+/// The ratios with a bound. A ratio is taken batch by batch, and its median is given.
+fn ratios(samples: &Samples) -> Table {
+    let mut table = Table::new(1, &["", "ratio", "bound"]);
+    let mut row = |name: String, key: Key, by: Key, bound: &str| {
+        if let Some(ratio) = samples.ratio(key, by) {
+            table.row(vec![name, format!("{ratio:.3}"), bound.into()]);
+        }
+    };
+    for setting in SETTINGS {
+        for operation in [Operation::Seal, Operation::Open] {
+            let key = library(setting, operation, 65_536);
+            let by = Key {
+                implementation: Implementation::ScalarC,
+                ..key
+            };
+            let name = format!(
+                "{}, {operation}, 65,536 bytes, by scalar C",
+                setting_name(setting)
+            );
+            row(name, key, by, "1.15");
+        }
+    }
+    for setting in SETTINGS {
+        for operation in [Operation::Open, Operation::Refuse] {
+            let key = library(setting, operation, 65_536);
+            let by = library(setting, Operation::Seal, 65_536);
+            let name = format!(
+                "{}, {operation}, 65,536 bytes, by seal",
+                setting_name(setting)
+            );
+            row(name, key, by, "1.10");
+        }
+    }
+    for operation in [Operation::Seal, Operation::Open] {
+        let key = library(Some((2, 6)), operation, 13);
+        let implementation = Implementation::XChaCha;
+        let by = Key {
+            implementation,
+            setting: None,
+            ..key
+        };
+        row(
+            format!("MRO, 6 rounds, {operation}, 13 bytes, by {implementation}"),
+            key,
+            by,
+            "1.10",
+        );
+    }
+    table
+}
+
+/// Sixteen times the bytes take at most sixteen times as long, and just that where what an empty
+/// message costs is left out.
+fn growth(samples: &Samples) -> Table {
+    let heading = [
+        "",
+        "call",
+        "implementation",
+        "whole call",
+        "above an empty message",
+    ];
+    let mut table = Table::new(3, &heading);
+    for setting in SETTINGS {
+        for operation in [Operation::Seal, Operation::Open] {
+            for implementation in [Implementation::Library, Implementation::ScalarC] {
+                let long = Key {
+                    implementation,
+                    setting,
+                    operation,
+                    len: 65_536,
+                };
+                let (short, empty) = (Key { len: 4096, ..long }, Key { len: 0, ..long });
+                let whole = samples.ratio(long, short);
+                let above = samples.ratio_above(long, short, empty);
+                if let (Some(whole), Some(above)) = (whole, above) {
+                    table.row(vec![
+                        setting_name(setting),
+                        operation.to_string(),
+                        implementation.to_string(),
+                        format!("{:.3}", whole / 16.0),
+                        format!("{:.3}", above / 16.0),
+                    ]);
+                }
+            }
+        }
+    }
+    table
+}
+
+/// Vector code on the paper's machines.
+fn paper() -> Table {
+    let heading = [
+        "platform", "code", "OPP, 4", "MRO, 4", "MRS, 4", "OPP, 6", "MRO, 6", "MRS, 6",
+    ];
+    let mut table = Table::new(2, &heading);
+    for row in [
+        [
+            "Cortex-A8",
+            "NEON",
+            "4.26",
+            "8.07",
+            "8.50",
+            "5.91",
+            "11.32",
+            "12.21",
+        ],
+        [
+            "Sandy Bridge",
+            "AVX",
+            "1.24",
+            "2.41",
+            "2.55",
+            "1.91",
+            "3.58",
+            "3.87",
+        ],
+        [
+            "Haswell", "AVX2", "0.55", "1.06", "2.40", "0.75", "1.39", "3.58",
+        ],
+    ] {
+        table.row(row.map(String::from).to_vec());
+    }
+    table
+}

@@ -1,0 +1,184 @@
+//! Every set of grounds that can hold at once: the first in the order of the checks wins.
+
+use crate::library::{refusal, Call, Entry, Library};
+use crate::prng::Prng;
+use crate::report::{Check, Tally};
+
+/// A refusal's number and the change to a good call that gives its ground.
+type Ground = (u32, fn(&mut Call));
+
+/// The grounds of seal in the order of its checks.
+const SEAL: [Ground; 7] = [
+    (1, bad_mode),
+    (2, bad_rounds),
+    (3, bad_key),
+    (4, bad_nonce),
+    (5, bad_header),
+    (6, long_input),
+    (7, short_output),
+];
+
+/// The grounds of open in the order of its checks, but for 8, which excludes 6.
+const OPEN: [Ground; 8] = [
+    (1, bad_mode),
+    (2, bad_rounds),
+    (3, bad_key),
+    (4, bad_nonce),
+    (5, bad_header),
+    (6, long_parcel),
+    (7, short_output),
+    (9, bad_tag),
+];
+
+/// The same with 8. A parcel of 31 bytes leaves no room for the grounds 7 and 9.
+const OPEN_SHORT: [Ground; 6] = [
+    (1, bad_mode),
+    (2, bad_rounds),
+    (3, bad_key),
+    (4, bad_nonce),
+    (5, bad_header),
+    (8, short_parcel),
+];
+
+const WALK: [Ground; 4] = [
+    (10, bad_start),
+    (13, long_list),
+    (12, bad_step),
+    (7, no_output),
+];
+
+const JUMP: [Ground; 3] = [(10, bad_start), (11, bad_count), (7, no_output)];
+
+/// All sets of grounds of all entry points.
+pub fn run(library: &Library, seed: u64) -> Tally {
+    let mut prng = Prng::new(seed);
+    let mut check = Check::new(library);
+    for mode in [1, 2] {
+        let seal = Call {
+            entry: Entry::Seal { mode, rounds: 4 },
+            inputs: vec![
+                prng.bytes(32),
+                prng.bytes(16),
+                prng.bytes(40),
+                prng.bytes(70),
+            ],
+            output_len: 102,
+        };
+        all_sets(&mut check, &SEAL, &seal);
+        let (_, parcel) = check.compare(&seal);
+        let mut open = seal.clone();
+        open.entry = Entry::Open { mode, rounds: 4 };
+        open.inputs[3] = parcel;
+        all_sets(&mut check, &OPEN, &open);
+        all_sets(&mut check, &OPEN_SHORT, &open);
+    }
+    let walk = Call {
+        entry: Entry::Walk,
+        inputs: vec![prng.bytes(128), vec![1, 5, 6]],
+        output_len: 128,
+    };
+    all_sets(&mut check, &WALK, &walk);
+    let jump = Call {
+        entry: Entry::Jump { counts: [1, -2, 3] },
+        inputs: vec![prng.bytes(128)],
+        output_len: 128,
+    };
+    all_sets(&mut check, &JUMP, &jump);
+    check.tally
+}
+
+fn all_sets(check: &mut Check, grounds: &[Ground], good: &Call) {
+    for set in 0..1u32 << grounds.len() {
+        let mut call = good.clone();
+        let mut first = None;
+        for (i, (number, apply)) in grounds.iter().enumerate() {
+            if set >> i & 1 == 1 {
+                apply(&mut call);
+                first = first.or(Some(*number));
+            }
+        }
+        let (answer, _) = check.compare(&call);
+        let passed = match first {
+            Some(12) => answer == refusal(12, 2),
+            Some(number) => answer == refusal(number, 0),
+            None => answer >> 32 == 0,
+        };
+        check.record(passed, || {
+            format!("{call}: {answer:#x}, first ground {first:?}")
+        });
+    }
+}
+
+fn bad_mode(call: &mut Call) {
+    if let Entry::Seal { mode, .. } | Entry::Open { mode, .. } = &mut call.entry {
+        *mode = 3;
+    }
+}
+
+fn bad_rounds(call: &mut Call) {
+    if let Entry::Seal { rounds, .. } | Entry::Open { rounds, .. } = &mut call.entry {
+        *rounds = 5;
+    }
+}
+
+fn bad_key(call: &mut Call) {
+    call.inputs[0].pop();
+}
+
+fn bad_nonce(call: &mut Call) {
+    call.inputs[1].push(0);
+}
+
+fn bad_header(call: &mut Call) {
+    call.inputs[2].resize(4097, 0);
+}
+
+fn long_input(call: &mut Call) {
+    call.inputs[3].resize(65_537, 0);
+    call.output_len = 65_569;
+}
+
+fn long_parcel(call: &mut Call) {
+    call.inputs[3].resize(65_569, 0);
+    call.output_len = 65_537;
+}
+
+fn short_parcel(call: &mut Call) {
+    call.inputs[3].truncate(31);
+}
+
+/// One byte short for either entry point, after the input has its length.
+fn short_output(call: &mut Call) {
+    call.output_len = match call.entry {
+        Entry::Open { .. } => call.inputs[3].len() - 33,
+        _ => call.inputs[3].len() + 31,
+    };
+}
+
+fn bad_tag(call: &mut Call) {
+    if let Some(byte) = call.inputs[3].last_mut() {
+        *byte ^= 0x80;
+    }
+}
+
+fn bad_start(call: &mut Call) {
+    call.inputs[0].pop();
+}
+
+fn long_list(call: &mut Call) {
+    call.inputs[1].resize(4097, 1);
+}
+
+fn bad_step(call: &mut Call) {
+    call.inputs[1][2] = 7;
+}
+
+fn bad_count(call: &mut Call) {
+    if let Entry::Jump { counts } = &mut call.entry {
+        counts[2] = -65_537;
+    }
+}
+
+fn no_output(call: &mut Call) {
+    call.output_len = 127;
+}

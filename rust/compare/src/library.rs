@@ -1,0 +1,144 @@
+//! Implementations with the C interface, and the second implementation behind the same face.
+
+use baseline::Sealing;
+use std::fmt;
+
+type Walking = unsafe extern "C" fn(*const u8, usize, *const u8, usize, *mut u8, usize) -> u64;
+type Jumping = unsafe extern "C" fn(*const u8, usize, i32, i32, i32, *mut u8, usize) -> u64;
+
+/// A library under test.
+pub struct Library {
+    seal: Sealing,
+    open: Sealing,
+    walk: Walking,
+    jump: Jumping,
+}
+
+/// The scalar C version.
+pub const BASELINE: Library = Library {
+    seal: baseline::baseline_seal,
+    open: baseline::baseline_open,
+    walk: baseline::baseline_walk,
+    jump: baseline::baseline_jump,
+};
+
+/// The archive of the proved library, where this program is linked with it.
+#[cfg(feature = "archive")]
+pub const ARCHIVE: Option<Library> = Some(Library {
+    seal: calmbaize::ffi::calmbaize_seal,
+    open: calmbaize::ffi::calmbaize_open,
+    walk: calmbaize::ffi::calmbaize_walk,
+    jump: calmbaize::ffi::calmbaize_jump,
+});
+#[cfg(not(feature = "archive"))]
+pub const ARCHIVE: Option<Library> = None;
+
+/// An entry point with the arguments that are no buffers.
+#[derive(Clone, Copy, Debug, PartialEq, Eq)]
+pub enum Entry {
+    /// Buffers: key, nonce, header, message.
+    Seal { mode: u32, rounds: u32 },
+    /// Buffers: key, nonce, header, parcel.
+    Open { mode: u32, rounds: u32 },
+    /// Buffers: start, steps.
+    Walk,
+    /// Buffer: start.
+    Jump { counts: [i32; 3] },
+}
+
+/// A call: an entry point, its input buffers and the length of its output.
+#[derive(Clone)]
+pub struct Call {
+    pub entry: Entry,
+    pub inputs: Vec<Vec<u8>>,
+    pub output_len: usize,
+}
+
+impl fmt::Display for Call {
+    fn fmt(&self, f: &mut fmt::Formatter<'_>) -> fmt::Result {
+        let lengths: Vec<usize> = self.inputs.iter().map(Vec::len).collect();
+        write!(
+            f,
+            "{:?}, inputs of {lengths:?}, output of {}",
+            self.entry, self.output_len
+        )
+    }
+}
+
+/// A null pointer for an empty buffer if `null` says so.
+fn pointer(buffer: &[u8], null: bool) -> *const u8 {
+    if null && buffer.is_empty() {
+        std::ptr::null()
+    } else {
+        buffer.as_ptr()
+    }
+}
+
+impl Library {
+    /// Makes a call. Where `null` is set, empty buffers are passed as null pointers.
+    pub fn call(&self, entry: Entry, inputs: &[&[u8]], output: &mut [u8], null: bool) -> u64 {
+        let at = |i: usize| pointer(inputs[i], null);
+        let len = |i: usize| inputs[i].len();
+        let out_len = output.len();
+        let out = if null && output.is_empty() {
+            std::ptr::null_mut()
+        } else {
+            output.as_mut_ptr()
+        };
+        let sealing = |f: Sealing, mode, rounds| {
+            let (k, n, h, i) = (at(0), at(1), at(2), at(3));
+            // SAFETY: each pointer is valid for its length or null with length 0, and `output` is
+            // borrowed mutably, so it overlaps none of the others.
+            unsafe {
+                f(
+                    mode,
+                    rounds,
+                    k,
+                    len(0),
+                    n,
+                    len(1),
+                    h,
+                    len(2),
+                    i,
+                    len(3),
+                    out,
+                    out_len,
+                )
+            }
+        };
+        match entry {
+            Entry::Seal { mode, rounds } => sealing(self.seal, mode, rounds),
+            Entry::Open { mode, rounds } => sealing(self.open, mode, rounds),
+            // SAFETY: as above.
+            Entry::Walk => unsafe { (self.walk)(at(0), len(0), at(1), len(1), out, out_len) },
+            Entry::Jump { counts: [a, b, c] } => {
+                // SAFETY: as above.
+                unsafe { (self.jump)(at(0), len(0), a, b, c, out, out_len) }
+            }
+        }
+    }
+}
+
+/// The second implementation's answer in the form of the C interface.
+pub fn expected(entry: Entry, inputs: &[&[u8]], output: &mut [u8]) -> u64 {
+    let result = match (entry, inputs) {
+        (Entry::Seal { mode, rounds }, [key, nonce, header, message]) => {
+            reference::seal(mode, rounds, key, nonce, header, message, output)
+        }
+        (Entry::Open { mode, rounds }, [key, nonce, header, parcel]) => {
+            reference::open(mode, rounds, key, nonce, header, parcel, output)
+        }
+        (Entry::Walk, [start, steps]) => reference::walk(start, steps, output),
+        (Entry::Jump { counts }, [start]) => reference::jump(start, counts, output),
+        _ => panic!("{entry:?} with {} buffers", inputs.len()),
+    };
+    match result {
+        Ok(written) => written as u64,
+        Err((number, place)) => refusal(number, place),
+    }
+}
+
+/// The answer of a refused call.
+pub fn refusal(number: u32, place: u32) -> u64 {
+    u64::from(number) << 32 | u64::from(place)
+}

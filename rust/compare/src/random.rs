@@ -1,0 +1,165 @@
+//! Random calls over all four entry points: long and short, valid, refused and damaged.
+
+use crate::damage;
+use crate::library::{expected, Call, Entry, Library};
+use crate::prng::Prng;
+use crate::report::{Check, Tally};
+use std::collections::BTreeMap;
+use std::time::Instant;
+
+/// Compares `calls` random calls.
+pub fn run(library: &Library, seed: u64, calls: u64) -> Tally {
+    let mut prng = Prng::new(seed);
+    let mut check = Check::new(library);
+    let mut answers = BTreeMap::new();
+    let begin = Instant::now();
+    for n in 1..=calls {
+        let (answer, _) = check.compare(&random_call(&mut prng));
+        *answers.entry(answer >> 32).or_insert(0u64) += 1;
+        if n % 50_000 == 0 {
+            println!("  {n} calls, {:.0} s", begin.elapsed().as_secs_f64());
+        }
+    }
+    let counts: Vec<String> = answers
+        .iter()
+        .map(|(n, count)| format!("{n}: {count}"))
+        .collect();
+    println!("  calls by refusal, 0 for none: {}", counts.join(", "));
+    check.tally
+}
+
+fn random_call(prng: &mut Prng) -> Call {
+    match prng.below(10) {
+        0..=3 => random_seal(prng),
+        4..=7 => random_open(prng),
+        8 => random_walk(prng),
+        _ => random_jump(prng),
+    }
+}
+
+fn random_seal(prng: &mut Prng) -> Call {
+    let (mode, rounds) = random_settings(prng);
+    let header = length(prng, 4096);
+    let message = length(prng, 65_536);
+    let inputs = vec![
+        exact_length_bytes(prng, 32),
+        exact_length_bytes(prng, 16),
+        prng.bytes(header),
+        prng.bytes(message),
+    ];
+    let output_len = output_length(prng, message + 32);
+    Call {
+        entry: Entry::Seal { mode, rounds },
+        inputs,
+        output_len,
+    }
+}
+
+/// A parcel that was sealed, half of the time damaged or opened under other settings.
+fn random_open(prng: &mut Prng) -> Call {
+    let sealing = random_seal(prng);
+    let inputs: Vec<&[u8]> = sealing.inputs.iter().map(Vec::as_slice).collect();
+    let mut parcel = vec![0; sealing.inputs[3].len() + 32];
+    expected(sealing.entry, &inputs, &mut parcel);
+    let Entry::Seal { mode, rounds } = sealing.entry else {
+        panic!("a seal call");
+    };
+    let mut call = Call {
+        entry: Entry::Open { mode, rounds },
+        inputs: sealing.inputs,
+        output_len: output_length(prng, parcel.len() - 32),
+    };
+    call.inputs[3] = parcel;
+    if prng.once_in(2) {
+        damage::random(prng, &mut call);
+    }
+    if prng.once_in(20) {
+        let len = prng.below(33);
+        call.inputs[3].truncate(len);
+    }
+    call
+}
+
+fn random_walk(prng: &mut Prng) -> Call {
+    let mut len = prng.below(40);
+    if prng.once_in(20) {
+        len = length(prng, 4096);
+    }
+    let mut steps: Vec<u8> = (0..len).map(|_| 1 + prng.below(6) as u8).collect();
+    if len > 0 && prng.once_in(5) {
+        for _ in 0..=prng.below(2) {
+            let place = prng.below(len);
+            steps[place] = prng.pick(&[0, 7, 8, 255]);
+        }
+    }
+    let inputs = vec![exact_length_bytes(prng, 128), steps];
+    Call {
+        entry: Entry::Walk,
+        inputs,
+        output_len: output_length(prng, 128),
+    }
+}
+
+fn random_jump(prng: &mut Prng) -> Call {
+    let mut counts = [0; 3];
+    for count in &mut counts {
+        // Mostly short ones: the library takes a jump step by step.
+        let bits = if prng.once_in(50) { 17 } else { prng.below(9) };
+        *count = prng.below((1 << bits) + 1) as i32 - (1 << bits) / 2;
+        if prng.once_in(100) {
+            *count = prng.pick(&[65_536, -65_536, 65_537, -65_537, i32::MAX, i32::MIN]);
+        }
+    }
+    let inputs = vec![exact_length_bytes(prng, 128)];
+    Call {
+        entry: Entry::Jump { counts },
+        inputs,
+        output_len: output_length(prng, 128),
+    }
+}
+
+fn random_settings(prng: &mut Prng) -> (u32, u32) {
+    let (mut mode, mut rounds) = (prng.pick(&[1, 2]), prng.pick(&[4, 6]));
+    if prng.once_in(40) {
+        mode = prng.pick(&[0, 3, 256, 257, 1 << 31, u32::MAX]);
+    }
+    if prng.once_in(40) {
+        rounds = prng.pick(&[0, 1, 3, 5, 7, 8, 12, 260, u32::MAX]);
+    }
+    (mode, rounds)
+}
+
+/// `len` bytes, now and then one more or less, or none.
+fn exact_length_bytes(prng: &mut Prng, len: usize) -> Vec<u8> {
+    let len = if prng.once_in(40) {
+        prng.pick(&[0, 1, len - 1, len + 1, 2 * len])
+    } else {
+        len
+    };
+    if prng.once_in(20) {
+        return vec![0; len];
+    }
+    prng.bytes(len)
+}
+
+/// A length up to a little over `max`, often short, often at the edge of a block.
+fn length(prng: &mut Prng, max: usize) -> usize {
+    match prng.below(100) {
+        0..=49 => prng.below(300),
+        50..=84 => (128 * prng.below(9) + prng.below(3)).saturating_sub(1),
+        85..=94 => prng.below(max.min(4096) + 1),
+        95..=96 => prng.below(max + 1),
+        97 => 128 * prng.below(max / 128 + 1),
+        _ => max - 1 + prng.below(3),
+    }
+}
+
+/// Mostly `needed` or more; now and then too short.
+fn output_length(prng: &mut Prng, needed: usize) -> usize {
+    match prng.below(12) {
+        0..=5 => needed,
+        6..=9 => needed + prng.below(200),
+        10 => needed.saturating_sub(1),
+        _ => prng.below(needed + 1),
+    }
+}

@@ -1,0 +1,78 @@
+//! Counting what agrees, and showing what does not.
+
+use crate::library::{expected, Call, Library};
+
+/// Bytes watched on both sides of an output.
+const MARGIN: usize = 64;
+/// Failures shown of one check.
+const SHOWN: u64 = 5;
+
+/// What passed and what failed.
+#[derive(Default)]
+pub struct Tally {
+    pub passed: u64,
+    pub failed: u64,
+}
+
+impl Tally {
+    /// Counts one result; `failure` describes it where it failed.
+    pub fn record(&mut self, passed: bool, failure: impl FnOnce() -> String) {
+        if passed {
+            self.passed += 1;
+            return;
+        }
+        self.failed += 1;
+        if self.failed <= SHOWN {
+            println!("  failed: {}", failure());
+        }
+    }
+}
+
+/// One check of a library.
+pub struct Check<'a> {
+    pub library: &'a Library,
+    pub tally: Tally,
+}
+
+impl<'a> Check<'a> {
+    /// Nothing counted yet.
+    pub fn new(library: &'a Library) -> Self {
+        let tally = Tally::default();
+        Self { library, tally }
+    }
+
+    /// Counts one result; `failure` describes it where it failed.
+    pub fn record(&mut self, passed: bool, failure: impl FnOnce() -> String) {
+        self.tally.record(passed, failure);
+    }
+
+    /// Makes `call` and compares the answer and every byte with the second implementation. Returns
+    /// the answer and the output.
+    pub fn compare(&mut self, call: &Call) -> (u64, Vec<u8>) {
+        let inputs: Vec<&[u8]> = call.inputs.iter().map(Vec::as_slice).collect();
+        let before = call.inputs.clone();
+        let mut wanted = pattern(call.output_len + 2 * MARGIN);
+        let mut found = wanted.clone();
+        let lent = MARGIN..MARGIN + call.output_len;
+        let wanted_answer = expected(call.entry, &inputs, &mut wanted[lent.clone()]);
+        let answer = self
+            .library
+            .call(call.entry, &inputs, &mut found[lent.clone()], true);
+        let passed = answer == wanted_answer && found == wanted && call.inputs == before;
+        self.record(passed, || {
+            let byte = found.iter().zip(&wanted).position(|(a, b)| a != b);
+            let byte = byte.map(|at| at as isize - MARGIN as isize);
+            let inputs = call.inputs == before;
+            format!(
+                "{call}: answer {answer:#x}, expected {wanted_answer:#x}; \
+                 output differs first at {byte:?}; inputs unchanged: {inputs}"
+            )
+        });
+        (answer, found[lent].to_vec())
+    }
+}
+
+/// What an output holds before a call: never the same byte twice in a row.
+pub fn pattern(len: usize) -> Vec<u8> {
+    (0..len).map(|i| (i * 37 + 11) as u8).collect()
+}

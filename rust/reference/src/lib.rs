@@ -1,0 +1,159 @@
+//! OPP and MRO over a masked BLAKE2b permutation, written to be compared with.
+//!
+//! This is the second implementation: it shares no code and no table with the proved one and is
+//! written in another style. Whole messages are handled at once, masks are windows of one run of
+//! words, the steps and their back steps are bit matrices, and powers of those give jumps.
+//!
+//! Each entry point takes the arguments of the C call of the same name and returns the bytes
+//! written, or the number and the place of a refusal.
+
+mod block;
+mod mask;
+mod maskwalk;
+mod matrix;
+mod mode;
+mod permutation;
+
+pub use block::{Block, BLOCK_LEN};
+pub use maskwalk::maskwalk;
+pub use mode::TAG_LEN;
+pub use permutation::{permute, unpermute};
+
+use mode::Cipher;
+
+/// Bytes of a key.
+pub const KEY_LEN: usize = 32;
+/// Bytes of a nonce.
+pub const NONCE_LEN: usize = 16;
+/// The longest header.
+pub const MAX_HEADER_LEN: usize = 4096;
+/// The longest message.
+pub const MAX_MESSAGE_LEN: usize = 65_536;
+/// The longest list of steps.
+pub const MAX_STEPS: usize = 4096;
+/// The largest net count, and with a minus sign the smallest.
+pub const MAX_COUNT: u32 = 65_536;
+
+/// The number of a refusal and its place.
+pub type Refusal = (u32, u32);
+
+/// Seals `message` into `output`.
+pub fn seal(
+    mode: u32,
+    rounds: u32,
+    key: &[u8],
+    nonce: &[u8],
+    header: &[u8],
+    message: &[u8],
+    output: &mut [u8],
+) -> Result<usize, Refusal> {
+    check_settings(mode, rounds, key, nonce, header)?;
+    let parcel_len = message.len() + TAG_LEN;
+    check(&[
+        (message.len() > MAX_MESSAGE_LEN, 6),
+        (output.len() < parcel_len, 7),
+    ])?;
+    let cipher = Cipher::new(rounds, key, nonce);
+    let parcel = if mode == 1 {
+        [cipher.opp_encrypt(message), cipher.opp_tag(header, message)].concat()
+    } else {
+        let tag = cipher.mro_tag(header, message);
+        [cipher.mro_transform(&tag, message), tag].concat()
+    };
+    Ok(write(&parcel, output))
+}
+
+/// Opens `parcel` into `output`.
+pub fn open(
+    mode: u32,
+    rounds: u32,
+    key: &[u8],
+    nonce: &[u8],
+    header: &[u8],
+    parcel: &[u8],
+    output: &mut [u8],
+) -> Result<usize, Refusal> {
+    check_settings(mode, rounds, key, nonce, header)?;
+    check(&[
+        (parcel.len() < TAG_LEN, 8),
+        (parcel.len() > MAX_MESSAGE_LEN + TAG_LEN, 6),
+        (output.len() + TAG_LEN < parcel.len(), 7),
+    ])?;
+    let (ciphertext, tag) = parcel.split_at(parcel.len() - TAG_LEN);
+    let cipher = Cipher::new(rounds, key, nonce);
+    let (message, expected) = if mode == 1 {
+        let message = cipher.opp_decrypt(ciphertext);
+        let expected = cipher.opp_tag(header, &message);
+        (message, expected)
+    } else {
+        let message = cipher.mro_transform(tag, ciphertext);
+        let expected = cipher.mro_tag(header, &message);
+        (message, expected)
+    };
+    if tag != expected {
+        output[..message.len()].fill(0);
+        return Err((9, 0));
+    }
+    Ok(write(&message, output))
+}
+
+/// Writes the block reached from `start` by `steps`.
+pub fn walk(start: &[u8], steps: &[u8], output: &mut [u8]) -> Result<usize, Refusal> {
+    check(&[
+        (start.len() != BLOCK_LEN, 10),
+        (steps.len() > MAX_STEPS, 13),
+    ])?;
+    if let Some(place) = steps.iter().position(|step| !(1..=6).contains(step)) {
+        return Err((12, place as u32));
+    }
+    check(&[(output.len() < BLOCK_LEN, 7)])?;
+    let first = block::from_bytes(start);
+    let reached = steps
+        .iter()
+        .fold(first, |block, &step| mask::step(step, &block));
+    Ok(write(&block::to_bytes(&reached), output))
+}
+
+/// Writes the block after `counts` alpha, beta and gamma steps from `start`.
+pub fn jump(start: &[u8], counts: [i32; 3], output: &mut [u8]) -> Result<usize, Refusal> {
+    check(&[
+        (start.len() != BLOCK_LEN, 10),
+        (
+            counts.iter().any(|count| count.unsigned_abs() > MAX_COUNT),
+            11,
+        ),
+        (output.len() < BLOCK_LEN, 7),
+    ])?;
+    let reached = mask::jump(counts, block::from_bytes(start));
+    Ok(write(&block::to_bytes(&reached), output))
+}
+
+/// The first five checks of seal and open.
+fn check_settings(
+    mode: u32,
+    rounds: u32,
+    key: &[u8],
+    nonce: &[u8],
+    header: &[u8],
+) -> Result<(), Refusal> {
+    check(&[
+        (!matches!(mode, 1 | 2), 1),
+        (!matches!(rounds, 4 | 6), 2),
+        (key.len() != KEY_LEN, 3),
+        (nonce.len() != NONCE_LEN, 4),
+        (header.len() > MAX_HEADER_LEN, 5),
+    ])
+}
+
+/// Refuses with the number of the first ground that holds.
+fn check(grounds: &[(bool, u32)]) -> Result<(), Refusal> {
+    match grounds.iter().find(|(holds, _)| *holds) {
+        Some(&(_, number)) => Err((number, 0)),
+        None => Ok(()),
+    }
+}
+
+fn write(bytes: &[u8], output: &mut [u8]) -> usize {
+    output[..bytes.len()].copy_from_slice(bytes);
+    bytes.len()
+}

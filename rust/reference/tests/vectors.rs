@@ -1,0 +1,137 @@
+//! Known answers of the four entry points. Those of single steps are tested beside the code.
+
+use reference::{jump, open, seal, walk, Refusal};
+
+const OPP: u32 = 1;
+const MRO: u32 = 2;
+const KEY: [u8; 32] = [0; 32];
+const NONCE: [u8; 16] = [0; 16];
+
+fn sealed(mode: u32, header: &[u8], message: &[u8]) -> Vec<u8> {
+    let mut parcel = vec![0xaa; message.len() + 32];
+    let answer = seal(mode, 4, &KEY, &NONCE, header, message, &mut parcel);
+    assert_eq!(answer, Ok(parcel.len()));
+    parcel
+}
+
+fn seal_answer(header_len: usize, message_len: usize, output_len: usize) -> Result<usize, Refusal> {
+    let (header, message) = (vec![3; header_len], vec![5; message_len]);
+    seal(
+        OPP,
+        6,
+        &KEY,
+        &NONCE,
+        &header,
+        &message,
+        &mut vec![0; output_len],
+    )
+}
+
+#[test]
+fn p10_the_tag_of_nothing_is_zero() {
+    for rounds in [4, 6] {
+        for mode in [OPP, MRO] {
+            let mut parcel = [0xaa; 32];
+            let answer = seal(mode, rounds, &KEY, &NONCE, &[], &[], &mut parcel);
+            assert_eq!((answer, parcel), (Ok(32), [0; 32]));
+        }
+    }
+}
+
+#[test]
+fn p11_a_zero_block_under_opp() {
+    assert_eq!(sealed(OPP, &[], &[0; 128]), [0; 160]);
+}
+
+#[test]
+fn rounds_are_checked_before_the_key() {
+    let answer = seal(OPP, 5, &KEY[..31], &NONCE, &[], &[], &mut [0; 32]);
+    assert_eq!(answer, Err((2, 0)));
+}
+
+#[test]
+fn lengths_at_their_limits() {
+    assert_eq!(seal_answer(4096, 0, 32), Ok(32));
+    assert_eq!(seal_answer(4097, 0, 32), Err((5, 0)));
+    assert_eq!(seal_answer(0, 65_536, 65_568), Ok(65_568));
+    assert_eq!(seal_answer(0, 65_537, 65_569), Err((6, 0)));
+    assert_eq!(seal_answer(0, 128, 159), Err((7, 0)));
+}
+
+#[test]
+fn short_parcels() {
+    let answer = |parcel: &[u8]| open(OPP, 4, &KEY, &NONCE, &[], parcel, &mut []);
+    assert_eq!(answer(&[0; 31]), Err((8, 0)));
+    assert_eq!(answer(&[0; 32]), Ok(0));
+    assert_eq!(answer(&[1; 32]), Err((9, 0)));
+}
+
+#[test]
+fn net_counts_at_their_limits() {
+    let answer = |counts| jump(&[7; 128], counts, &mut [0; 128]);
+    assert_eq!(answer([65_536, -65_536, 65_536]), Ok(128));
+    for counts in [
+        [65_537, 0, 0],
+        [0, -65_537, 0],
+        [0, 0, 65_537],
+        [i32::MIN, 0, 0],
+    ] {
+        assert_eq!(answer(counts), Err((11, 0)));
+    }
+}
+
+#[test]
+fn a_bad_step_is_placed() {
+    assert_eq!(walk(&[0; 128], &[1, 7, 0], &mut [0; 128]), Err((12, 1)));
+}
+
+#[test]
+fn order_of_the_checks_of_walk_and_jump() {
+    let long = [9; 4097];
+    assert_eq!(walk(&[0; 127], &long, &mut []), Err((10, 0)));
+    assert_eq!(walk(&[0; 128], &long, &mut []), Err((13, 0)));
+    assert_eq!(walk(&[0; 128], &long[..4096], &mut []), Err((12, 0)));
+    assert_eq!(walk(&[0; 128], &[6; 4096], &mut [0; 127]), Err((7, 0)));
+    assert_eq!(jump(&[0; 127], [65_537; 3], &mut []), Err((10, 0)));
+    assert_eq!(jump(&[0; 128], [65_537; 3], &mut []), Err((11, 0)));
+    assert_eq!(jump(&[0; 128], [1; 3], &mut [0; 127]), Err((7, 0)));
+}
+
+#[test]
+fn a_differing_tag_clears_the_message_and_nothing_else() {
+    for mode in [OPP, MRO] {
+        let mut parcel = sealed(mode, b"header", &[5; 200]);
+        parcel[231] ^= 0x80;
+        let mut output = [0xaa; 210];
+        let answer = open(mode, 4, &KEY, &NONCE, b"header", &parcel, &mut output);
+        assert_eq!(answer, Err((9, 0)));
+        assert_eq!(output[..200], [0; 200]);
+        assert_eq!(output[200..], [0xaa; 10]);
+    }
+}
+
+#[test]
+fn what_is_sealed_opens() {
+    for mode in [OPP, MRO] {
+        for len in [0, 1, 127, 128, 129, 255, 256, 257, 1000] {
+            let message: Vec<u8> = (0..len).map(|i| (i * 7 + 1) as u8).collect();
+            let parcel = sealed(mode, &message[len / 2..], &message);
+            let mut output = vec![0xaa; len + 3];
+            let header = &message[len / 2..];
+            let answer = open(mode, 4, &KEY, &NONCE, header, &parcel, &mut output);
+            assert_eq!(answer, Ok(len));
+            assert_eq!(output, [&message[..], &[0xaa; 3]].concat());
+        }
+    }
+}
+
+#[test]
+fn dropping_a_final_zero_block_changes_the_tag() {
+    let key = [1; 32];
+    let tag = |message: &[u8]| {
+        let mut parcel = vec![0; message.len() + 32];
+        seal(OPP, 4, &key, &NONCE, &[], message, &mut parcel).expect("sealed");
+        parcel.split_off(message.len())
+    };
+    assert_ne!(tag(&[0; 256]), tag(&[0; 128]));
+}

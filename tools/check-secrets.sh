@@ -1,0 +1,28 @@
+#!/bin/sh
+# No branch and no address depends on a secret: valgrind's memcheck on the archive's machine code.
+#
+# usage: check-secrets.sh [FOLDER] [VERDICT]
+#
+# FOLDER holds libcalmbaize.a, dist/ if it is not given. VERDICT is explained in secrets.c.
+set -eu
+
+root=$(cd "$(dirname "$0")/.." && pwd)
+folder=${1:-$root/dist}
+work=$(mktemp -d)
+trap 'rm -rf "$work"' EXIT
+
+if ! command -v valgrind > /dev/null ||
+    ! echo '#include <valgrind/memcheck.h>' | ${CC:-cc} -E - > /dev/null 2>&1; then
+    echo "check-secrets: valgrind is missing: install Debian's package valgrind" >&2
+    exit 2
+fi
+if [ ! -f "$folder/libcalmbaize.a" ]; then
+    echo "check-secrets: $folder/libcalmbaize.a is missing: run make" >&2
+    exit 2
+fi
+${CC:-cc} -std=c99 -O1 -g -Wall -Wextra -I "$root/include" "$root/tools/secrets.c" \
+    "$folder/libcalmbaize.a" -o "$work/secrets"
+valgrind --quiet --error-limit=no --log-file="$work/log" "$work/secrets" ${2:-} || {
+    sed -n 1,40p "$work/log" >&2
+    exit 1
+}

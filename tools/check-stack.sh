@@ -1,0 +1,20 @@
+#!/bin/sh
+# The deepest stack of each call is within what calmbaize.h states.
+#
+# usage: check-stack.sh [FOLDER]
+#
+# FOLDER holds libcalmbaize.a, dist/ if it is not given.
+set -eu
+
+root=$(cd "$(dirname "$0")/.." && pwd)
+folder=${1:-$root/dist}
+work=$(mktemp -d)
+trap 'rm -rf "$work"' EXIT
+
+if [ ! -f "$folder/libcalmbaize.a" ]; then
+    echo "check-stack: $folder/libcalmbaize.a is missing: run make" >&2
+    exit 2
+fi
+${CC:-cc} -std=c99 -O1 -Wall -Wextra -I "$root/include" "$root/tools/stack.c" \
+    "$folder/libcalmbaize.a" -o "$work/stack"
+"$work/stack"

@@ -1,0 +1,51 @@
+#!/bin/sh
+# The main job with the command line tool: seals a sale, opens it, shows that a damaged parcel is
+# refused, and steps a mask on and back in two orders.
+#
+# usage: demo.sh CALMBAIZE
+#
+# CALMBAIZE is the tool.
+set -eu
+
+tool=$(cd "$(dirname "$1")" && pwd)/$(basename "$1")
+work=$(mktemp -d)
+trap 'rm -rf "$work"' EXIT
+cd "$work"
+
+hex() {
+    od -An -v -tx1 "$1" | tr -d ' \n'
+}
+
+# 13 bytes: amount in cents (4), column (2), means (1), clock (6), low byte first.
+printf '\226\0\0\0\004\0\001\350\007\001\002\003\004' > sale
+head -c 32 /dev/urandom > key
+head -c 16 /dev/urandom > nonce
+settings="--key-file key --nonce-file nonce --mode mro --rounds 6"
+
+echo "a sale of 13 bytes:   $(hex sale)"
+"$tool" seal $settings --input sale --output parcel
+echo "sealed, 45 bytes:     $(hex parcel | cut -c 1-40)..."
+"$tool" open $settings --input parcel --output opened
+echo "opened:               $(hex opened)"
+cmp sale opened
+
+# One bit of the first byte.
+first=$(od -An -tu1 -N1 parcel | tr -d ' ')
+{ printf "\\$(printf %o $((first ^ 1)))"; tail -c +2 parcel; } > damaged
+status=0
+"$tool" open $settings --input damaged --output refused 2> error || status=$?
+echo "one bit changed:      $(cat error) (status $status)"
+grep -q 'refused with 9' error && [ "$status" -eq 1 ] && [ ! -e refused ]
+
+head -c 128 /dev/urandom > start
+"$tool" walk --steps aabgBa --input start --output one
+"$tool" walk --steps gaaBab --input start --output two
+"$tool" jump --alpha 3 --gamma 1 --input start --output three
+echo "mask after aabgBa:    $(hex one | cut -c 1-40)..."
+echo "mask after gaaBab:    $(hex two | cut -c 1-40)..."
+echo "jump of 3, 0, 1:      $(hex three | cut -c 1-40)..."
+cmp one two
+cmp one three
+"$tool" walk --steps GAAA --input one --output back
+cmp start back
+echo "and back with GAAA:   the start again"

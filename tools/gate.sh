@@ -1,0 +1,65 @@
+#!/usr/bin/env bash
+# Runs each part of the gate, shows its lines with the time so far, and adds up what passed.
+#
+# usage: gate.sh
+set -u
+cd "$(dirname "$0")/.." || exit 2
+
+began=$(date +%s)
+passed=0
+failed=0
+log=$(mktemp)
+trap 'rm -f "$log"' EXIT
+
+# One line of progress for each crate and edit, with the time since the gate began.
+stamped() {
+    while IFS= read -r line; do
+        printf '[%4d s] %s\n' $(($(date +%s) - began)) "$line"
+    done
+}
+
+# part NAME COMMAND...: runs it and adds the counts that it prints, in the prover's form and cargo's.
+part() {
+    local name=$1 status counts
+    shift
+    echo "== $name" | stamped
+    "$@" 2>&1 | tee "$log" | stamped
+    status=${PIPESTATUS[0]}
+    counts=$(sed -nE 's/^([0-9]+) passed, ([0-9]+) failed$/\1 \2/p; s/^test result: .* ([0-9]+) passed; ([0-9]+) failed;.*/\1 \2/p' "$log" |
+        awk '{ p += $1; f += $2 } END { print p + 0, f + 0 }')
+    passed=$((passed + ${counts% *}))
+    failed=$((failed + ${counts#* }))
+    # A part that fails, or counts nothing, without saying so is one failure.
+    if { [ "$status" -ne 0 ] && [ "${counts#* }" -eq 0 ]; } || [ "$counts" = "0 0" ]; then
+        failed=$((failed + 1))
+        echo "== $name FAILED (status $status)" | stamped
+    fi
+}
+
+prove() {
+    command -v rt >/dev/null || { echo "gate: rt is missing: the Rattle toolchain is needed"; return 2; }
+    rt ci | sed -E '/^(library|logic |crate |note:|fn |enum |struct )/d'
+    return "${PIPESTATUS[0]}"
+}
+
+archive() {
+    make --no-print-directory dist && echo "1 passed, 0 failed"
+}
+
+cargo_in_rust() {
+    (cd rust && cargo "$@" --offline --release --quiet)
+}
+
+part "proofs, must-fail edits and programs" prove
+part "archive" archive
+if [ -f dist/libcalmbaize.a ]; then
+    part "header" tools/check-header.sh dist
+    part "archive's symbols" tools/check-archive.sh
+    part "Rust tests" cargo_in_rust test --workspace
+    part "comparison with the second implementation" cargo_in_rust run --package compare -- all
+    part "maskwalk" cargo_in_rust run --package compare -- --maskwalk ../target/bin/maskwalk maskwalk
+    part "stack" tools/check-stack.sh
+    part "secrets" tools/check-secrets.sh
+fi
+echo "$passed passed, $failed failed"
+[ "$failed" -eq 0 ] && [ "$passed" -gt 0 ]

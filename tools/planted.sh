@@ -1,0 +1,129 @@
+#!/bin/sh
+# Every outside check passes on a sound library and fails on one with a fault in it.
+#
+# usage: planted.sh
+#
+# The library is the scalar C version built as an archive, with a fault planted by sed.
+set -u
+
+root=$(cd "$(dirname "$0")/.." && pwd)
+work=$(mktemp -d)
+trap 'rm -rf "$work"' EXIT
+faulty=$work/faulty
+passed=0
+failed=0
+
+# build FOLDER [SED-SCRIPT]
+build() {
+    "$root/tools/stand-in.sh" "$@" || exit 2
+}
+
+# compare FOLDER CHECK...: the comparing program, linked with the archive in FOLDER.
+compare() {
+    folder=$1
+    shift
+    CALMBAIZE_LIB_DIR=$folder cargo run --quiet --offline --manifest-path "$root/rust/Cargo.toml" \
+        --package compare -- --calls 3000 "$@"
+}
+
+# expect STATUS NAME COMMAND...: 0 where the command must pass, 1 where it must fail.
+expect() {
+    wanted=$1
+    name=$2
+    shift 2
+    "$@" > "$work/log" 2>&1
+    status=$?
+    # 2 is a check that could not run, which shows nothing.
+    if [ "$status" -eq "$wanted" ]; then
+        passed=$((passed + 1))
+        echo "  $name: $([ "$wanted" -eq 0 ] && echo passes || echo seen)"
+    else
+        failed=$((failed + 1))
+        echo "  failed: $name: status $status"
+        tail -n 5 "$work/log"
+    fi
+}
+
+# planted NAME SED-SCRIPT COMMAND...: the command must fail on the archive with that fault.
+planted() {
+    name=$1
+    build "$faulty" "$2"
+    shift 2
+    expect 1 "$name" "$@"
+}
+
+build "$work/sound"
+expect 0 "sound: compare" compare "$work/sound" all
+expect 0 "sound: secrets" "$root/tools/check-secrets.sh" "$work/sound" 1
+expect 0 "sound: stack" "$root/tools/check-stack.sh" "$work/sound"
+expect 0 "sound: archive" "$root/tools/check-archive.sh" "$work/sound"
+
+planted "tag compared by an early exit" \
+    's/difference |= \(.*\);/if ((\1) != 0) return 1;/' \
+    "$root/tools/check-secrets.sh" "$faulty" 1
+planted "a branch on the message" \
+    '/^static void opp_seal/,/^}/s/xor_into(check, block);/if (block[0] == 1) { volatile int x = 1; (void)x; } &/' \
+    "$root/tools/check-secrets.sh" "$faulty" 1
+planted "a branch on the key" \
+    '/^static void start_block/,/^}/s/load(start, bytes);/if (key[0] == 1) { volatile int x = 1; (void)x; } &/' \
+    "$root/tools/check-secrets.sh" "$faulty" 1
+planted "a deep stack" \
+    '/^static void start_block/,/^}/s/load(start, bytes);/volatile uint8_t deep[9000]; deep[0] = 0; &/' \
+    "$root/tools/check-stack.sh" "$faulty"
+planted "a call outside" \
+    '/^uint64_t baseline_walk/,/^}/s/load(m, start);/extern int puts(const char *); puts("walk"); &/' \
+    "$root/tools/check-archive.sh" "$faulty"
+planted "state between calls" \
+    '/^uint64_t baseline_walk/,/^}/s/load(m, start);/static int calls; output[0] = (uint8_t)calls++; &/' \
+    "$root/tools/check-archive.sh" "$faulty"
+planted "a byte read past a buffer" \
+    's/memcpy(bytes, p, len);/memcpy(bytes, p, len + 1);/' \
+    compare "$faulty" guard
+planted "one byte too many cleared" \
+    's/memset(output, 0, len)/memset(output, 0, len + (len < output_len))/' \
+    compare "$faulty" damage
+planted "nothing cleared" \
+    's/memset(output, 0, len)/(void)output/' \
+    compare "$faulty" damage
+planted "24 bytes of the tag compared" \
+    '/^static int tag_differs/,/^}/s/i < 4/i < 3/' \
+    compare "$faulty" damage
+planted "two rotations in alpha" \
+    's/rotl(m\[0\], 53) ^ m\[5\] << 13/rotl(m[0], 53) ^ rotl(m[5], 13)/' \
+    compare "$faulty" masks
+planted "a back step that does not undo" \
+    's/ ^ c\[6\] << 13//' \
+    compare "$faulty" masks
+planted "a check out of order" \
+    's/if (input_len < TAG)/if (output_len + TAG < input_len) return refuse(7, 0); &/' \
+    compare "$faulty" grounds
+planted "a bad step without its place" \
+    's/refuse(12, (uint32_t)i)/refuse(12, 0)/' \
+    compare "$faulty" vectors
+planted "a limit off by one" \
+    's/MAX_HEADER = 4096/MAX_HEADER = 4095/' \
+    compare "$faulty" vectors
+planted "the counter left out" \
+    's/block\[15\] = i;/block[15] = 0;/' \
+    compare "$faulty" edges
+planted "the lengths exchanged" \
+    's/tag\[14\] ^= header_len;/tag[15] ^= header_len;/; s/tag\[15\] ^= len;/tag[14] ^= len;/' \
+    compare "$faulty" random
+planted "another start" \
+    's/memcpy(bytes, nonce, NONCE);/&  bytes[80] = 4;/' \
+    compare "$faulty" random
+
+mkdir "$work/include"
+sed 's/size_t key_len/key_len/' "$root/include/calmbaize.h" > "$work/include/calmbaize.h"
+expect 1 "a header that does not compile" "$root/tools/check-header.sh" "$work/include"
+
+cargo build --quiet --offline --manifest-path "$root/rust/Cargo.toml" --package reference \
+    --example maskwalk || exit 2
+maskwalk=$root/rust/target/debug/examples/maskwalk
+expect 0 "sound: maskwalk" compare "$work/sound" --maskwalk "$maskwalk" maskwalk
+printf '#!/bin/sh\n"%s" | sed s/^long/lang/\n' "$maskwalk" > "$work/maskwalk"
+chmod +x "$work/maskwalk"
+expect 1 "maskwalk: a wrong word" compare "$work/sound" --maskwalk "$work/maskwalk" maskwalk
+
+echo "$passed passed, $failed failed"
+[ "$failed" -eq 0 ]

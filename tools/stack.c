@@ -1,0 +1,121 @@
+/*
+ * The deepest stack of each call: runs it on a painted stack of its own and looks how far the
+ * paint is gone. A call of nothing gives what the way there takes.
+ *
+ * The figures must be within those that calmbaize.h states.
+ */
+#define _XOPEN_SOURCE 700
+#include <stdio.h>
+#include <stdlib.h>
+#include <string.h>
+#include <ucontext.h>
+
+#include "calmbaize.h"
+
+enum { STACK = 1 << 20, PAINT = 0xa5, MAX = CALMBAIZE_MESSAGE_BYTES_MAX, TAG = CALMBAIZE_TAG_BYTES };
+
+static uint8_t key[CALMBAIZE_KEY_BYTES], nonce[CALMBAIZE_NONCE_BYTES];
+static uint8_t header[CALMBAIZE_HEADER_BYTES_MAX], message[MAX], parcel[MAX + TAG];
+static uint8_t output[MAX + TAG], start[CALMBAIZE_BLOCK_BYTES], steps[600];
+static uint32_t mode, rounds;
+static size_t header_len, len;
+static ucontext_t here, there;
+
+static void nothing(void)
+{
+}
+
+static void seal(void)
+{
+    calmbaize_seal(mode, rounds, key, sizeof key, nonce, sizeof nonce, header, header_len, message,
+                   len, parcel, sizeof parcel);
+}
+
+static void open(void)
+{
+    calmbaize_open(mode, rounds, key, sizeof key, nonce, sizeof nonce, header, header_len, parcel,
+                   len + TAG, output, sizeof output);
+}
+
+static void open_refused(void)
+{
+    parcel[len] ^= 1;
+    open();
+    parcel[len] ^= 1;
+}
+
+static void walk(void)
+{
+    calmbaize_walk(start, sizeof start, steps, sizeof steps, output, sizeof output);
+}
+
+static void jump(void)
+{
+    calmbaize_jump(start, sizeof start, 5, -5, -5, output, sizeof output);
+    calmbaize_jump(start, sizeof start, -5, 5, 5, output, sizeof output);
+}
+
+static size_t depth(void (*call)(void))
+{
+    uint8_t *stack = malloc(STACK);
+    size_t untouched = 0;
+
+    if (stack == NULL)
+        abort();
+    memset(stack, PAINT, STACK);
+    getcontext(&there);
+    there.uc_stack.ss_sp = stack;
+    there.uc_stack.ss_size = STACK;
+    there.uc_link = &here;
+    makecontext(&there, call, 0);
+    swapcontext(&here, &there);
+    while (untouched < STACK && stack[untouched] == PAINT)
+        untouched++;
+    free(stack);
+    return STACK - untouched;
+}
+
+/* The deepest over all modes, round counts and kinds of lengths. */
+static size_t deepest_sealing(void (*call)(void))
+{
+    static const size_t lengths[] = {0, 1, 127, 128, 129, 4096, MAX};
+    size_t deepest = 0;
+
+    for (mode = 1; mode <= 2; mode++)
+        for (rounds = 4; rounds <= 6; rounds += 2)
+            for (size_t i = 0; i < sizeof lengths / sizeof lengths[0]; i++)
+                for (header_len = 0; header_len <= sizeof header; header_len += 1365) {
+                    len = lengths[i];
+                    seal();
+                    size_t found = depth(call);
+                    deepest = found > deepest ? found : deepest;
+                }
+    return deepest;
+}
+
+static int check(const char *call, size_t measured, size_t floor, size_t stated)
+{
+    size_t bytes = measured > floor ? measured - floor : 0;
+    int passed = bytes <= stated;
+
+    printf("  %s: %zu bytes, stated %zu%s\n", call, bytes, stated, passed ? "" : ": too deep");
+    return passed;
+}
+
+int main(void)
+{
+    size_t floor = depth(nothing), opened, refused;
+    int passed = 0;
+
+    for (size_t i = 0; i < sizeof steps; i++)
+        steps[i] = (uint8_t)(i % 6 + 1);
+    depth(walk);
+    opened = deepest_sealing(open);
+    refused = deepest_sealing(open_refused);
+    passed += check("seal", deepest_sealing(seal), floor, CALMBAIZE_SEAL_STACK_BYTES);
+    passed += check("open", opened > refused ? opened : refused, floor, CALMBAIZE_OPEN_STACK_BYTES);
+    passed += check("walk", depth(walk), floor, CALMBAIZE_WALK_STACK_BYTES);
+    passed += check("jump", depth(jump), floor, CALMBAIZE_JUMP_STACK_BYTES);
+    printf("%d passed, %d failed\n", passed, 4 - passed);
+    return passed < 4;
+}
