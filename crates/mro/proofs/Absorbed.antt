@@ -12,7 +12,8 @@ use Rattle.words.proofs.Blocks.{blockOf-ext}
 use Rattle.masks.specs.Steps.{alpha, beta}
 use Rattle.mem.specs.Mem.{maskAt, under, encipher}
 use Rattle.mem.proofs.Laws.{mask-alpha}
-use Rattle.blockplan.specs.Plan.{whole, left, hasLeft, blockAt, stepped, xorOver}
+use Rattle.blockplan.specs.Plan.{whole, left, hasLeft, blockAt, xorOver}
+use Rattle.blockplan.specs.Stepped.{stepped}
 use Rattle.blockplan.proofs.Plans.{xorOver-ext, summed}
 use Rattle.blockplan.proofs.Ciphered.{length-left}
 use Rattle.mro.specs.Mro.{blocks, absorbAt, mroSum}

@@ -1,11 +1,11 @@
 -- Laws of bytes xored with the stream. Assumes nothing.
-use mathlib.Core.Path.{_≡_, refl, sym, _∙_}
-use mathlib.Core.List.{List, _++_, append-assoc}
+use mathlib.Core.Path.{_≡_, refl, sym, ap, _∙_}
+use mathlib.Core.List.{List, [], _++_, append-assoc, append-nil}
 use Prim.Native.Nat.{ℕ, _+_, _-_, _*_}
 use native.Mathlib.Omega.{arith}
-use lib.ListN.{length, take, drop}
+use lib.ListN.{length, take, drop, drop-of-length-le}
 use borrow.Rule.Slice.PartMut.{putMid}
-use Rattle.words.specs.Sequence.{cat, times}
+use Rattle.words.specs.Sequence.{cat, tab, times}
 use Rattle.words.specs.Block.{bytesOf, xorBlock, xorBytes}
 use Rattle.words.proofs.Lists.{length-cat}
 use Rattle.words.proofs.Blocks.{length-bytesOf}
@@ -41,3 +41,15 @@ streamed-left rounds start mask tag s old xs ys stream g e k q =
     let front = cat (writtenAt rounds mask tag s) (whole s) in
     fronted (128 * whole s) (length (left s)) front (xorBytes (left s) (bytesOf stream)) old xs ys (length-cat (writtenAt rounds mask tag s) 128 (whole s) (length-writtenAt rounds mask tag s)) e q
     ∙ rw (all, k, g, cipher-is rounds start tag s) (sym (append-assoc (cat (writtenAt rounds (gamma start) tag s) (whole s)) (xorBytes (left s) (bytesOf (under rounds (gamma start) (counter tag (whole s))))) (drop (length s) old)))
+
+-- where nothing is left over, the whole blocks are all
+pub streamed-none : (rounds : ℕ) (start mask tag s old xs : List ℕ) → mask ≡ gamma start → length s ≡ 128 * whole s
+    → xs ≡ cat (writtenAt rounds mask tag s) (whole s) ++ drop (128 * whole s) old → xs ≡ mroCipher rounds start tag s ++ drop (length s) old
+unfolding left xorBytes tab
+streamed-none rounds start mask tag s old xs g h e =
+    let stream = bytesOf (under rounds (gamma start) (counter tag (whole s))) in
+    let none : drop (128 * whole s) s ≡ [] = drop-of-length-le s {i = 128 * whole s} (omega arith) in
+    let all : mroCipher rounds start tag s ≡ cat (writtenAt rounds (gamma start) tag s) (whole s)
+    = cipher-is rounds start tag s ∙ ap (λ (l : List ℕ). cat (writtenAt rounds (gamma start) tag s) (whole s) ++ xorBytes l stream) none
+    ∙ append-nil (cat (writtenAt rounds (gamma start) tag s) (whole s)) in
+    e ∙ rw (all, g, h)

@@ -55,9 +55,11 @@ pub fn xor_stream(s: &[u8], tag: [u64; 16], start: [u64; 16], rounds: u32, out: 
         i += 1;
     }
     let at = 128 * whole;
-    xor_leftover(
-        &s[at..],
-        stream_block(tag, whole, mask, rounds),
-        &mut out[at..],
-    );
+    if at < s.len() {
+        xor_leftover(
+            &s[at..],
+            stream_block(tag, whole, mask, rounds),
+            &mut out[at..],
+        );
+    }
 }

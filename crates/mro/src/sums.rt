@@ -7,7 +7,8 @@ use words::block::xor;
 ghost use mathlib.Core.Path.{_≡_};
 ghost use Rattle.words.specs.Block.{xorBlock};
 ghost use Rattle.mem.specs.Mem.{encipher as enciphered};
-ghost use Rattle.blockplan.specs.Plan.{stepped, xorOver};
+ghost use Rattle.blockplan.specs.Plan.{xorOver};
+ghost use Rattle.blockplan.specs.Stepped.{stepped};
 ghost use Rattle.mro.specs.Mro.{blocks, mroSum, lengths};
 
 // The sum of all blocks of s, a padded one included, the first under the mask given.

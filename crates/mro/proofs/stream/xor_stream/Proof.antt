@@ -8,7 +8,7 @@ use denote.Ref.{now}
 use Rattle.words.specs.Sequence.{cat}
 use Rattle.words.proofs.Lists.{appended, tailPart}
 use Rattle.blockplan.specs.Plan.{whole, left, blockAt, tagBytes}
-use Rattle.mro.proofs.Streams.{writtenAt, length-writtenAt, streamed-left}
+use Rattle.mro.proofs.Streams.{writtenAt, length-writtenAt, streamed-left, streamed-none}
 use borrow.Author.Needs.{needs}
 use Rattle.mro.proofs.stream.xor_stream.Statement.{statement}
 use Rattle.mro.proofs.stream.xor_stream.Tie as tie
@@ -108,9 +108,9 @@ part-xor-leftover-end-2 c = search needs
 
 xor-leftover-requires : tie.Need-xor-leftover-requires Inv-loop μ-loop
 xor-leftover-requires c κs =
-    let start = c .before .before .before .before .before .before .before .before in
+    let start = c .before .before .before .before .before .before .before .before .before in
     let at = 128 * (length (now (start .args .s)) / 128) in
-    rw (tailPart at (now (start .args .s)), tailPart at (c .before .before .before .before .loop .out)) (simp length-drop (omega arith))
+    rw (tailPart at (now (start .args .s)), tailPart at (c .before .before .before .before .before .loop .out)) (simp length-drop (omega arith))
 
 same-length : tie.Need-same-length Inv-loop μ-loop
 same-length c = search needs
@@ -118,13 +118,25 @@ same-length c = search needs
 returns : tie.Need-returns Inv-loop μ-loop
 unfolding whole left
 returns c =
-    let start = c .before .before .before .before .before .before .before .before .before .before .before in
-    let at = c .before .before .before .before .before .before .before .loop in
+    let start = c .before .before .before .before .before .before .before .before .before .before .before .before in
+    let at = c .before .before .before .before .before .before .before .before .loop in
     let s = now (start .args .s) in
     let e : at .i ≡ length s / 128 = omega arith in
-    streamed-left _ (start .args .start) _ _ s _ (at .out) _ _ (c .before .before .before .before .before .before .before .before .gamma .ensures)
+    streamed-left _ (start .args .start) _ _ s _ (at .out) _ _ (c .before .before .before .before .before .before .before .before .before .gamma .ensures)
     (rw e at (at .inv .1 .1 .1)) (c .before .before .before .before .stream-block2 .ensures)
     (rw (tailPart (128 * (length s / 128)) s) at (c .before .before .xor-leftover .ensures))
+
+same-length-2 : tie.Need-same-length-2 Inv-loop μ-loop
+same-length-2 c = search needs
+
+returns-2 : tie.Need-returns-2 Inv-loop μ-loop
+unfolding whole
+returns-2 c =
+    let at = c .before .before .loop in
+    let start = c .before .before .before .before .before .before in
+    let s = now (start .args .s) in
+    let e : at .i ≡ length s / 128 = omega arith in
+    streamed-none _ (start .args .start) _ _ s _ (at .out) (c .before .before .before .gamma .ensures) (omega arith) (rw e at (at .inv .1 .1 .1))
 
 pub xor-stream-spec : {M : Type 1} → statement M
 xor-stream-spec =
@@ -158,4 +170,6 @@ xor-stream-spec =
     part-xor-leftover-end-2
     xor-leftover-requires
     same-length
-    returns)
+    returns
+    same-length-2
+    returns-2)
