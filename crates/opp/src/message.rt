@@ -1,0 +1,110 @@
+// The one pass over the message: whole blocks, the leftover, and the check over the plain bytes.
+// Sealing and opening differ in the way a block goes, and in which of its two forms is plain.
+use blockplan::leftover::padded;
+use blockplan::leftover::xor_leftover;
+use masks::steps::alpha;
+use masks::steps::beta;
+use masks::steps::gamma;
+use mem::cipher::decipher;
+use mem::cipher::encipher;
+use words::block::load;
+use words::block::store;
+use words::block::xor;
+use words::block::zero;
+ghost use mathlib.Core.Path.{_≡_};
+ghost use mathlib.Core.Bool.{cond};
+ghost use mathlib.Core.List.{_++_};
+ghost use Prim.Native.Nat.{_*_, _≤_};
+ghost use lib.ListN.{length, drop};
+ghost use Rattle.words.specs.Sequence.{cat};
+ghost use Rattle.words.specs.Block.{blockOf, bytesOf, xorBlock};
+ghost use Rattle.mem.specs.Mem.{maskAt};
+ghost use Rattle.blockplan.specs.Plan.{whole, hasLeft, xorOver};
+ghost use Rattle.opp.specs.Opp.{oppCheck};
+ghost use Rattle.opp.specs.Pass.{crossed, bytesAt, plainAt, passed, plain};
+
+// The check so far, and the running mask.
+pub struct Passed {
+    pub check: [u64; 16],
+    pub mask: [u64; 16],
+}
+
+// One block: E of it, or D where a parcel is opened, to the front of the output, and the plain one of
+// the two into the check.
+fn pass_block(
+    check: [u64; 16],
+    mask: [u64; 16],
+    rounds: u32,
+    s: &[u8],
+    opening: bool,
+    out: &mut [u8],
+) -> [u64; 16]
+    requires { ⌜ (128 ≤ length (now s)) × (128 ≤ length (now out)) ⌝ }
+    ensures { λ _. ⌜ now (out .exit) ≡ bytesOf (crossed opening rounds mask (blockOf (now (s .entry)))) ++ drop 128 (now (out .entry)) ⌝ }
+    ensures { λ r. ⌜ r ≡ xorBlock check (cond opening (crossed opening rounds mask (blockOf (now (s .entry)))) (blockOf (now (s .entry)))) ⌝ }
+{
+    let given = load(s);
+    if opening {
+        let made = decipher(given, mask, rounds);
+        store(made, out);
+        xor(check, made)
+    } else {
+        store(encipher(given, mask, rounds), out);
+        xor(check, given)
+    }
+}
+
+// The whole blocks, each written at its own offset. The mask after them is (m, 0, 1).
+fn pass_blocks(
+    start: [u64; 16],
+    rounds: u32,
+    s: &[u8],
+    opening: bool,
+    out: &mut [u8],
+) -> Passed
+    requires { ⌜ length (now s) ≤ length (now out) ⌝ }
+    ensures { λ _. ⌜ now (out .exit) ≡ cat (bytesAt opening rounds start (now (s .entry))) (whole (now (s .entry))) ++ drop (128 * whole (now (s .entry))) (now (out .entry)) ⌝ }
+    ensures { λ r. ⌜ (r .check ≡ xorOver (plainAt opening rounds start (now (s .entry))) (whole (now (s .entry)))) × (r .mask ≡ maskAt start (whole (now (s .entry))) 0 1) ⌝ }
+{
+    let mut check = zero();
+    let mut mask = gamma(start);
+    let count = s.len() / 128;
+    let mut i: usize = 0;
+    while i < count {
+        let at = 128 * i;
+        let next = pass_block(check, mask, rounds, &s[at..], opening, &mut out[at..]);
+        check = next;
+        let step = alpha(mask);
+        mask = step;
+        i += 1;
+    }
+    Passed { check, mask }
+}
+
+// Which of a leftover's two forms is the message's.
+fn choose(opening: bool, made: [u64; 16], given: [u64; 16]) -> [u64; 16]
+    ensures { λ r. ⌜ r ≡ cond opening made given ⌝ }
+{
+    if opening { made } else { given }
+}
+
+// All bytes. The mask after them is (m, 0, 1), or (m, 1, 1) where there is a leftover.
+pub fn pass(start: [u64; 16], rounds: u32, s: &[u8], opening: bool, out: &mut [u8]) -> Passed
+    requires { ⌜ length (now s) ≤ length (now out) ⌝ }
+    ensures { λ _. ⌜ now (out .exit) ≡ passed opening rounds start (now (s .entry)) ++ drop (length (now (s .entry))) (now (out .entry)) ⌝ }
+    ensures { λ r. ⌜ (r .check ≡ oppCheck (plain opening rounds start (now (s .entry)))) × (r .mask ≡ maskAt start (whole (now (s .entry))) (cond (hasLeft (now (s .entry))) 1 0) 1) ⌝ }
+{
+    let blocks = pass_blocks(start, rounds, s, opening, out);
+    let n = s.len();
+    let at = 128 * (n / 128);
+    if at == n {
+        return blocks;
+    }
+    let before = blocks.mask;
+    let mask = beta(before);
+    xor_leftover(&s[at..], encipher(zero(), mask, rounds), &mut out[at..]);
+    let last = choose(opening, padded(&out[at..n], 1), padded(&s[at..], 1));
+    let sum = blocks.check;
+    let check = xor(sum, last);
+    Passed { check, mask }
+}
