@@ -1,7 +1,7 @@
 -- What a public call answers (document 01, "Entry points and where each call is checked"). Assumes nothing.
 use mathlib.Core.Bool.{Bool, true, false}
 use mathlib.Core.List.{List}
-use Prim.Native.Nat.{ℕ}
+use Prim.Native.Nat.{ℕ, _+_, _*_, _^_}
 use Rattle.answers.specs.declared.Answer.{Answer}
 use Rattle.answers.specs.declared.Answer.the-variants.{Done, Mode, Rounds, KeyLength, NonceLength, HeaderLength, InputLength, OutputLength, TagMissing, TagDiffers, StartLength, NetCount, StepByte, ListLength}
 
@@ -38,6 +38,14 @@ valueOf StartLength = 0
 valueOf NetCount = 0
 valueOf (StepByte at) = at
 valueOf ListLength = 0
+
+-- an answer as one number, for C: the refusal's number times 2^32, plus the place; on success the bytes written
+unfoldable pub codeOf : Answer → ℕ
+codeOf a = numberOf a * 2 ^ 32 + valueOf a
+
+-- a call's answer in that form, beside its output
+unfoldable pub coded : Answer × List ℕ → ℕ × List ℕ
+coded r = (codeOf (r .0), r .1)
 
 -- a check of the table: where the ground holds, the call answers it and changes no byte of the output; else the next check decides
 unfoldable pub refuse : Bool → Answer → List ℕ → Answer × List ℕ → Answer × List ℕ

@@ -1,6 +1,7 @@
 // What a public call answers: the bytes written, or the ground of refusal.
 ghost use mathlib.Core.Path.{_≡_};
-ghost use Rattle.answers.specs.Answers.{numberOf, valueOf};
+ghost use Rattle.answers.specs.Answers.{numberOf, valueOf, codeOf};
+ghost use Prim.Native.Nat.{_<_, _^_};
 
 pub enum Answer {
     // Success, and how many bytes were written.
@@ -75,4 +76,12 @@ pub fn value(a: Answer) -> usize
         Answer::NetCount => 0,
         Answer::ListLength => 0,
     }
+}
+
+// The answer as one number, for callers from C.
+pub fn code(a: Answer) -> u64
+    requires { ⌜ valueOf a < 2 ^ 32 ⌝ }
+    ensures { λ r. ⌜ r ≡ codeOf a ⌝ }
+{
+    (number(a) as u64) * 4294967296 + (value(a) as u64)
 }

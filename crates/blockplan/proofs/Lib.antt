@@ -1,1 +1,2 @@
+pub mod Ciphered
 pub mod Plans

@@ -17,6 +17,7 @@ use Rattle.masks.specs.BackSteps.{unAlpha, betaRun, betaSide, gammaRun, 
 use borrow.Author.Needs.{needs}
 use Rattle.words.specs.Block.{Block}
 
+-- what owning an array of sixteen u64 tells
 pub array-block : (s : List ℕ) (vs : List Val) → Is (Array (UInt w64) 16) s vs → Block s
 array-block s vs is = record {
   long = search needs;
@@ -49,10 +50,10 @@ next17 b p = bitXor (bitXor (next16 b p) (getD p 15 0)) (getD b 15 0)
 
 -- what is solved for, from the run that starts with zeros
 module _ (b p : List ℕ) (e : p ≡ tab (gammaRun b 0 0) 16) where
-  pub gamma-side-16 : bitXor (next16 b p) (shl 13 (getD p 5 0)) ≡ gammaSide b 16 5
+  pub gamma-side-16 : bitXor (next16 b p) (shl 13 (getD p 5 0)) ≡ gammaSide b 0
   unfolding gammaSide gammaRun tab
   gamma-side-16 = ap (λ (t : List ℕ). bitXor (next16 b t) (shl 13 (getD t 5 0))) e
 
-  pub gamma-side-17 : bitXor (next17 b p) (shl 13 (getD p 6 0)) ≡ gammaSide b 17 6
+  pub gamma-side-17 : bitXor (next17 b p) (shl 13 (getD p 6 0)) ≡ gammaSide b 1
   unfolding gammaSide gammaRun tab
   gamma-side-17 = ap (λ (t : List ℕ). bitXor (next17 b t) (shl 13 (getD t 6 0))) e

@@ -1,18 +1,18 @@
 -- The words of a table that the bits of a number choose: the choice keeps exclusive or, and one bit alone chooses its row.
 -- Assumes nothing.
-use mathlib.Core.Path.{_≡_, refl, sym, ap, ap₂, _∙_, subst}
+use mathlib.Core.Path.{_≡_, refl, sym, ap, ap₂, _∙_}
 use mathlib.Core.List.{List}
 use Prim.Native.Nat.{ℕ, zero, suc, _+_, _-_, _*_, _/_, _%_, _^_, _≤_, _<_}
-use native.Mathlib.Nat.{mod-lt, mul-one, mul-zero, pow-suc, mul-mod-left, div-self, div-eq-of-lt, zero-mod}
+use native.Mathlib.Nat.{mod-lt, mul-one, mul-zero, pow-suc, mul-mod-left, div-self, div-eq-of-lt}
 use native.Mathlib.Omega.{arith}
 use native.Mathlib.Decide.{decLt}
 use lib.Dec.{T, lit<}
 use lib.ListN.{length, getD, List·getD-eq-default}
 use lib.Pow.{pow-pos, pow-lt, pow-add, shl-shr}
-use lib.Bits.{bitXor, xor-lt, xor-self, xor-zero-l, xor-zero-r, xor-shr, xor-mod}
+use lib.Bits.{bitXor, xor-lt, xor-self, xor-zero-r, xor-shr, xor-mod}
 use Rattle.words.proofs.Xor.{xor-swap}
 use Rattle.masks.specs.BackSteps.{chosen}
-use Rattle.masks.proofs.Linear.{Keeps, OnWord, Digit, off, on, digit, same, carried, zero-kept}
+use Rattle.masks.proofs.Linear.{OnWord, Digit, off, on, digit, same, carried, zero-kept}
 
 -- ---- a word times a bit
 

@@ -1,6 +1,6 @@
 -- The laws of the mask steps: each step and its back step undo each other and keep exclusive or, any two steps commute, and a back
 -- step's value is the only block whose forward step gives the block at hand. Assumes nothing.
-use mathlib.Core.Path.{_≡_, refl, sym, ap, ap₂, _∙_, subst}
+use mathlib.Core.Path.{_≡_, refl, sym, ap, ap₂, _∙_}
 use mathlib.Core.List.{List}
 use Prim.Native.Nat.{ℕ}
 use Rattle.words.specs.Block.{Block, xorBlock, zeroBlock}

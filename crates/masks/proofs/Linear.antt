@@ -1,12 +1,12 @@
 -- Maps on numbers of n bits that keep exclusive or: two of them that agree at each 2^j are equal. Assumes nothing.
 use mathlib.Core.Path.{_≡_, refl, sym, ap, ap₂, _∙_, subst}
-use Prim.Native.Nat.{ℕ, zero, suc, _+_, _-_, _*_, _/_, _%_, _^_, _≤_, _<_}
-use native.Mathlib.Nat.{add-comm, add-zero, zero-add, mod-lt, mul-one, mul-zero, one-mul, zero-mul}
+use Prim.Native.Nat.{ℕ, zero, suc, _+_, _*_, _/_, _%_, _^_, _≤_, _<_}
+use native.Mathlib.Nat.{add-comm, zero-add, mod-lt, one-mul, zero-mul}
 use native.Mathlib.Numerals.{add-one}
 use native.Mathlib.Omega.{arith}
-use lib.Pow.{pow-pos, pow-lt, pow-mono, split, shr-lt, high, low}
+use lib.Pow.{pow-pos, pow-lt, split, shr-lt, high, low}
 use lib.Arith.{digits-lt}
-use lib.Bits.{bitXor, xor-lt, xor-self, xor-zero-l, xor-zero-r, xor-shifted, xor-shr, xor-mod, xor-block}
+use lib.Bits.{bitXor, xor-lt, xor-self, xor-shifted, xor-shr, xor-mod, xor-block}
 use lib.Dec.{T, eqb, eqb→eq}
 use mathlib.Core.Bool.{Bool, true, false}
 use native.Mathlib.Decide.{decLt}

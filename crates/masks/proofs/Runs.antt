@@ -1,13 +1,12 @@
 -- Alpha word by word: the words of a mask and of those after it are one run, of which each mask is a window. Assumes nothing.
 use mathlib.Core.Path.{_≡_, refl, sym, ap, ap₂, _∙_, subst}
-use mathlib.Core.List.{List, [], _∷_, _++_}
-use Prim.Native.Nat.{ℕ, zero, suc, _+_, _-_, _*_, _^_, _≤_, _<_}
-use native.Mathlib.Nat.{add-comm, add-zero, zero-add, add-suc, suc-add, mod-lt}
-use native.Mathlib.Numerals.{add-one}
+use mathlib.Core.List.{List, [], _∷_}
+use Prim.Native.Nat.{ℕ, zero, suc, _+_, _-_, _^_, _<_}
+use native.Mathlib.Nat.{add-comm, add-zero, zero-add}
 use native.Mathlib.Omega.{arith}
 use native.Mathlib.Decide.{decLt}
 use lib.Dec.{lit<}
-use lib.ListN.{length, getD, take, drop, length-append, length-take, length-drop, List·getD-append, List·getD-eq-default}
+use lib.ListN.{length, getD, drop, length-append, length-take, length-drop, List·getD-append, List·getD-eq-default}
 use lib.Seq.{getD-at, getD-drop, getD-take, ext-getD}
 use lib.Pow.{pow-pos}
 use lib.Bits.{bitXor, xor-lt}
@@ -17,7 +16,7 @@ use Rattle.words.specs.Block.{Block, xorBlock}
 use Rattle.words.proofs.Lists.{getD-tab}
 use Rattle.words.proofs.Words.{rotR-lt, rotR-back, shl-lt}
 use Rattle.words.proofs.Xor.{xor-cancel-r}
-use Rattle.words.proofs.Blocks.{xor-block, getD-xor, block-is}
+use Rattle.words.proofs.Blocks.{xor-block, getD-xor}
 use Rattle.masks.specs.Steps.{alpha, alphaW, beta, gamma}
 use Rattle.masks.specs.BackSteps.{unAlpha}
 use Rattle.masks.proofs.Linear.{OnPair, pair-xor}

@@ -1,16 +1,13 @@
 -- The tables solve for the back steps: the rule of each is one test over the whole table, and it is carried to each row.
 -- Assumes nothing.
-use mathlib.Core.Path.{_≡_, refl, sym, ap, ap₂, _∙_, subst}
-use mathlib.Core.List.{List}
-use mathlib.Core.Bool.{Bool, true, false}
-use Prim.Native.Nat.{ℕ, zero, suc, _+_, _-_, _*_, _/_, _%_, _^_, _≤_, _<_}
-use native.Mathlib.Nat.{add-zero, zero-add, mul-zero, mod-lt, mul-mod-left, mod-eq-of-lt, div-eq-of-lt}
+use mathlib.Core.Path.{_≡_, refl, sym, ap, ap₂, _∙_}
+use Prim.Native.Nat.{ℕ, _+_, _-_, _*_, _/_, _%_, _^_, _<_}
+use native.Mathlib.Nat.{mul-mod-left, mod-eq-of-lt, div-eq-of-lt}
 use native.Mathlib.Omega.{arith}
 use native.Mathlib.Decide.{decLt}
-use lib.Dec.{T, lit<}
-use lib.ListN.{length, getD}
-use lib.Pow.{pow-pos, pow-lt, pow-add, shl-shr}
-use lib.Bits.{bitXor, xor-zero-l, xor-zero-r}
+use lib.ListN.{getD}
+use lib.Pow.{pow-lt, pow-add, shl-shr}
+use lib.Bits.{bitXor, xor-zero-r}
 use Rattle.words.specs.Word.{rotR, rotL, shl}
 use Rattle.words.proofs.Words.{rotR-lt, rotR-xor, shl-lt, shl-xor}
 use Rattle.masks.specs.Tables.{betaTable, gammaTable}

@@ -1,24 +1,22 @@
 -- Beta and gamma are undone by their back steps, and redo them: the first words of a block are the only ones that meet the
 -- condition on the new words. Assumes nothing.
-use mathlib.Core.Path.{_≡_, refl, sym, ap, ap₂, _∙_, subst}
-use mathlib.Core.List.{List, [], _∷_}
-use Prim.Native.Nat.{ℕ, zero, suc, _+_, _-_, _*_, _^_, _≤_, _<_}
-use native.Mathlib.Nat.{add-comm, add-zero, zero-add, add-suc, suc-add}
+use mathlib.Core.Path.{_≡_, refl, sym, ap, ap₂, _∙_}
+use mathlib.Core.List.{List}
+use Prim.Native.Nat.{ℕ, zero, suc, _+_, _^_, _<_}
 use native.Mathlib.Numerals.{add-one, add-two}
 use native.Mathlib.Omega.{arith}
-use native.Mathlib.Decide.{decLt}
-use lib.Dec.{lit<, lit≤}
-use lib.ListN.{length, getD}
+use lib.Dec.{lit<}
+use lib.ListN.{getD}
 use lib.Pow.{pow-pos}
 use lib.Bits.{bitXor, xor-lt, xor-self, xor-comm, xor-zero-l, xor-zero-r}
 use Rattle.words.specs.Sequence.{tab}
-use Rattle.words.specs.Word.{rotL, shl}
-use Rattle.words.specs.Block.{Block, xorBlock}
-use Rattle.words.proofs.Lists.{getD-tab, tab-ext}
+use Rattle.words.specs.Word.{shl}
+use Rattle.words.specs.Block.{Block}
+use Rattle.words.proofs.Lists.{tab-ext}
 use Rattle.words.proofs.Words.{shl-lt, shl-xor}
 use Rattle.words.proofs.Xor.{xor-assoc, xor-cancel-l, xor-cancel-r, xor-swap}
-use Rattle.words.proofs.Blocks.{xor-block, block-tab, block-is}
-use Rattle.masks.specs.Steps.{alpha, alphaW, beta, gamma}
+use Rattle.words.proofs.Blocks.{block-tab, block-is}
+use Rattle.masks.specs.Steps.{alphaW, beta, gamma}
 use Rattle.masks.specs.Tables.{gammaTable}
 use Rattle.masks.specs.BackSteps.{betaRun, betaSide, betaWord, unBeta, gammaRun, gammaSide, gammaWord, unGamma}
 use Rattle.masks.proofs.Solving.{betaOn, word-betaWord, beta-solved, beta-found, gammaX, gammaY, pair-gammaWord, gamma-solved, gamma-found}
@@ -27,8 +25,8 @@ use Rattle.masks.proofs.Runs.{block-ext, beta-block, gamma-block, run, 
 -- ---- exclusive or
 
 -- two words are equal where their exclusive or is that of two equal words
-so : (a c u v : ℕ) → bitXor a c ≡ bitXor u v → u ≡ v → a ≡ c
-so a c u v e q =
+same-where : (a c u v : ℕ) → bitXor a c ≡ bitXor u v → u ≡ v → a ≡ c
+same-where a c u v e q =
     sym (xor-cancel-r a c) ∙ ap (λ (z : ℕ). bitXor z c) (e ∙ ap (λ (z : ℕ). bitXor z v) q ∙ xor-self v) ∙ xor-zero-l c
 
 xor-left : (a b c : ℕ) → bitXor a (bitXor b c) ≡ bitXor b (bitXor a c)
@@ -63,9 +61,9 @@ beta-condition : (b : List ℕ) (x : ℕ) → bitXor (alphaW x (betaRun b x 5)) 
 unfolding alphaW betaOn betaSide
 beta-condition b x = rw (beta-from b x 5, beta-from b x 16, shl-xor) (simp sorted)
 
--- the word
-abbrev firstAlone : List ℕ → ℕ
-firstAlone b = betaWord (betaSide b)
+-- the word that backward beta solves for
+abbrev onlyWord : List ℕ → ℕ
+onlyWord b = betaWord (betaSide b)
 
 module _ (b : List ℕ) (h : Block b) where
   beta-word-lt : betaWord (betaSide b) < 2 ^ 64
@@ -73,15 +71,15 @@ module _ (b : List ℕ) (h : Block b) where
 
   pub unBeta-block : Block (unBeta b)
   unfolding unBeta
-  unBeta-block = block-tab (betaRun b (firstAlone b)) (λ i p. beta-fits b h (firstAlone b) beta-word-lt i)
+  unBeta-block = block-tab (betaRun b (onlyWord b)) (λ i p. beta-fits b h (onlyWord b) beta-word-lt i)
 
   -- the words of the solution go on as the run does
-  beta-runs : (i : ℕ) → i < 17 → run (unBeta b) i ≡ betaRun b (firstAlone b) i
+  beta-runs : (i : ℕ) → i < 17 → run (unBeta b) i ≡ betaRun b (onlyWord b) i
   unfolding unBeta betaRun
-  beta-runs = run-of (betaRun b (firstAlone b)) unBeta-block 1 (lit< tt) new
+  beta-runs = run-of (betaRun b (onlyWord b)) unBeta-block 1 (lit< tt) new
     where
-      new : (n : ℕ) → n < 1 → alphaW (betaRun b (firstAlone b) n) (betaRun b (firstAlone b) (n + 5)) ≡ betaRun b (firstAlone b) (n + 16)
-      new zero p = so _ _ _ _ (beta-condition b (firstAlone b)) (beta-solved (betaSide b) (beta-side-lt b h))
+      new : (n : ℕ) → n < 1 → alphaW (betaRun b (onlyWord b) n) (betaRun b (onlyWord b) (n + 5)) ≡ betaRun b (onlyWord b) (n + 16)
+      new zero p = same-where _ _ _ _ (beta-condition b (onlyWord b)) (beta-solved (betaSide b) (beta-side-lt b h))
       new (suc n) p = absurd (omega arith)
 
   pub beta-redo : beta (unBeta b) ≡ b
@@ -89,7 +87,7 @@ module _ (b : List ℕ) (h : Block b) where
     where
       word : (i : ℕ) → i < 16 → getD (beta (unBeta b)) i 0 ≡ getD b i 0
       word i p =
-          let x = firstAlone b in
+          let x = onlyWord b in
           beta-at (unBeta b) unBeta-block i p ∙ ap₂ bitXor (beta-runs (i + 1) (omega arith) ∙ beta-next b x i) (beta-runs i (omega arith))
           ∙ xor-comm (bitXor (betaRun b x i) (getD b i 0)) (betaRun b x i) ∙ xor-cancel-l (betaRun b x i) (getD b i 0)
 
@@ -105,7 +103,7 @@ module _ (s : List ℕ) (h : Block s) where
   beta-first-word : betaWord (betaSide (beta s)) ≡ run s 0
   beta-first-word =
       ap betaWord
-      (sym (so _ _ _ _ (sym (beta-condition (beta s) (run s 0)))
+      (sym (same-where _ _ _ _ (sym (beta-condition (beta s) (run s 0)))
       (ap (alphaW (run s 0)) (beta-follows 5 (lit< tt)) ∙ sym (run-new s h 0) ∙ sym (beta-follows 16 (lit< tt)))))
       ∙ beta-found (run s 0) (run-lt s h 0)
 
@@ -168,10 +166,11 @@ gamma-fits b h x y hx hy (suc (suc i)) =
     xor-lt 64 (bitXor (gammaRun b x y (suc i)) (gammaRun b x y i)) (getD b i 0)
     (xor-lt 64 (gammaRun b x y (suc i)) (gammaRun b x y i) (gamma-fits b h x y hx hy (suc i)) (gamma-fits b h x y hx hy i)) (h .words i)
 
-gamma-side-lt : (b : List ℕ) → Block b → (n m : ℕ) → gammaSide b n m < 2 ^ 64
+gamma-side-lt : (b : List ℕ) → Block b → (k : ℕ) → gammaSide b k < 2 ^ 64
 unfolding gammaSide
-gamma-side-lt b h n m =
-    xor-lt 64 (gammaRun b 0 0 n) (shl 13 (gammaRun b 0 0 m)) (gamma-fits b h 0 0 (pow-pos 64) (pow-pos 64) n) (shl-lt 13 (gammaRun b 0 0 m))
+gamma-side-lt b h k =
+    xor-lt 64 (gammaRun b 0 0 (k + 16)) (shl 13 (gammaRun b 0 0 (k + 5))) (gamma-fits b h 0 0 (pow-pos 64) (pow-pos 64) (k + 16))
+    (shl-lt 13 (gammaRun b 0 0 (k + 5)))
 
 -- the conditions on the two new words, and what the first two words solve, are the same
 first-condition : (x y p q : ℕ) → bitXor (alphaW x (bitXor (bitXor y x) p)) (bitXor y q) ≡ bitXor (gammaX x y) (bitXor q (shl 13 p))
@@ -183,26 +182,26 @@ unfolding alphaW gammaY
 second-condition x y p q = rw shl-xor (simp sorted)
 
 module _ (b : List ℕ) (x y : ℕ) where
-  gamma-condition-x : bitXor (alphaW x (gammaRun b x y 5)) (gammaRun b x y 16) ≡ bitXor (gammaX x y) (gammaSide b 16 5)
+  gamma-condition-x : bitXor (alphaW x (gammaRun b x y 5)) (gammaRun b x y 16) ≡ bitXor (gammaX x y) (gammaSide b 0)
   unfolding gammaSide threefold
   gamma-condition-x =
       ap₂ (λ (p q : ℕ). bitXor (alphaW x p) q) (gamma-from b x y 5) (gamma-from b x y 16) ∙ first-condition x y (gammaRun b 0 0 5) (gammaRun b 0 0 16)
 
-  gamma-condition-y : bitXor (alphaW y (gammaRun b x y 6)) (gammaRun b x y 17) ≡ bitXor (gammaY x y) (gammaSide b 17 6)
+  gamma-condition-y : bitXor (alphaW y (gammaRun b x y 6)) (gammaRun b x y 17) ≡ bitXor (gammaY x y) (gammaSide b 1)
   unfolding gammaSide threefold
   gamma-condition-y =
       ap₂ (λ (p q : ℕ). bitXor (alphaW y p) q) (gamma-from b x y 6) (gamma-from b x y 17) ∙ second-condition x y (gammaRun b 0 0 6) (gammaRun b 0 0 17)
 
--- the two words
+-- the two words that backward gamma solves for
 abbrev firstWord : List ℕ → ℕ
-firstWord b = gammaWord gammaTable 0 (gammaSide b 16 5) (gammaSide b 17 6)
+firstWord b = gammaWord gammaTable 0 (gammaSide b 0) (gammaSide b 1)
 
 abbrev secondWord : List ℕ → ℕ
-secondWord b = gammaWord gammaTable 1 (gammaSide b 16 5) (gammaSide b 17 6)
+secondWord b = gammaWord gammaTable 1 (gammaSide b 0) (gammaSide b 1)
 
 module _ (b : List ℕ) (h : Block b) where
-  gamma-word-lt : (at : ℕ) → gammaWord gammaTable at (gammaSide b 16 5) (gammaSide b 17 6) < 2 ^ 64
-  gamma-word-lt at = pair-gammaWord at .fits (gammaSide b 16 5) (gammaSide b 17 6) (gamma-side-lt b h 16 5) (gamma-side-lt b h 17 6)
+  gamma-word-lt : (at : ℕ) → gammaWord gammaTable at (gammaSide b 0) (gammaSide b 1) < 2 ^ 64
+  gamma-word-lt at = pair-gammaWord at .fits (gammaSide b 0) (gammaSide b 1) (gamma-side-lt b h 0) (gamma-side-lt b h 1)
 
   pub unGamma-block : Block (unGamma b)
   unfolding unGamma
@@ -214,13 +213,13 @@ module _ (b : List ℕ) (h : Block b) where
   unfolding unGamma gammaRun
   gamma-runs = run-of (gammaRun b (firstWord b) (secondWord b)) unGamma-block 2 (lit< tt) new
     where
-      solved : (gammaX (firstWord b) (secondWord b) ≡ gammaSide b 16 5) × (gammaY (firstWord b) (secondWord b) ≡ gammaSide b 17 6)
-      solved = gamma-solved (gammaSide b 16 5) (gammaSide b 17 6) (gamma-side-lt b h 16 5) (gamma-side-lt b h 17 6)
+      solved : (gammaX (firstWord b) (secondWord b) ≡ gammaSide b 0) × (gammaY (firstWord b) (secondWord b) ≡ gammaSide b 1)
+      solved = gamma-solved (gammaSide b 0) (gammaSide b 1) (gamma-side-lt b h 0) (gamma-side-lt b h 1)
 
       new : (n : ℕ) → n < 2
           → alphaW (gammaRun b (firstWord b) (secondWord b) n) (gammaRun b (firstWord b) (secondWord b) (n + 5)) ≡ gammaRun b (firstWord b) (secondWord b) (n + 16)
-      new zero p = so _ _ _ _ (gamma-condition-x b (firstWord b) (secondWord b)) (solved .0)
-      new (suc zero) p = so _ _ _ _ (gamma-condition-y b (firstWord b) (secondWord b)) (solved .1)
+      new zero p = same-where _ _ _ _ (gamma-condition-x b (firstWord b) (secondWord b)) (solved .0)
+      new (suc zero) p = same-where _ _ _ _ (gamma-condition-y b (firstWord b) (secondWord b)) (solved .1)
       new (suc (suc n)) p = absurd (omega arith)
 
   pub gamma-redo : gamma (unGamma b) ≡ b
@@ -258,8 +257,8 @@ module _ (s : List ℕ) (h : Block s) where
   unfolding unGamma
   gamma-undo =
       let found = gamma-found (run s 0) (run s 1) (run-lt s h 0) (run-lt s h 1) in
-      let x = sym (so _ _ _ _ (sym (gamma-condition-x (gamma s) (run s 0) (run s 1))) (gamma-new 0 (lit< tt))) in
-      let y = sym (so _ _ _ _ (sym (gamma-condition-y (gamma s) (run s 0) (run s 1))) (gamma-new 1 (lit< tt))) in
+      let x = sym (same-where _ _ _ _ (sym (gamma-condition-x (gamma s) (run s 0) (run s 1))) (gamma-new 0 (lit< tt))) in
+      let y = sym (same-where _ _ _ _ (sym (gamma-condition-y (gamma s) (run s 0) (run s 1))) (gamma-new 1 (lit< tt))) in
       ap₂ (λ (x y : ℕ). tab (gammaRun (gamma s) x y) 16)
       (ap₂ (gammaWord gammaTable 0) x y ∙ found .0)
       (ap₂ (gammaWord gammaTable 1) x y ∙ found .1)

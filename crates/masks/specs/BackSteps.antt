@@ -1,7 +1,7 @@
 -- The three back steps (document 01, "Masks"). A reader need not believe the ways of solving for words here, or the numbers of their
 -- tables: theorem back-steps (proofs/Laws) shows each value to be the only block whose forward step gives the block at hand.
 -- Assumes nothing.
-use mathlib.Core.List.{List, [], _∷_}
+use mathlib.Core.List.{List, _∷_}
 use Prim.Native.Nat.{ℕ, zero, suc, _+_, _*_, _/_, _%_, _^_}
 use lib.ListN.{getD, take}
 use lib.Bits.{bitXor}
@@ -23,10 +23,11 @@ unfoldable pub betaRun : List ℕ → ℕ → ℕ → ℕ
 betaRun b x zero = x
 betaRun b x (suc i) = bitXor (betaRun b x i) (getD b i 0)
 
--- what the first word solves, and the word that does
+-- what the first word of the run has to solve, so that the word after the sixteenth is alpha's new word
 unfoldable pub betaSide : List ℕ → ℕ
 betaSide b = bitXor (betaRun b 0 16) (shl 13 (betaRun b 0 5))
 
+-- the word that solves it: row k of the table for each bit k
 unfoldable pub betaWord : ℕ → ℕ
 betaWord e = chosen betaTable 0 1 e 64
 
@@ -40,14 +41,18 @@ gammaRun b x y zero = x
 gammaRun b x y (suc zero) = y
 gammaRun b x y (suc (suc i)) = bitXor (bitXor (gammaRun b x y (suc i)) (gammaRun b x y i)) (getD b i 0)
 
--- what the first two words solve: n is 16 for the one, 17 for the other
-unfoldable pub gammaSide : List ℕ → ℕ → ℕ → ℕ
-gammaSide b n m = bitXor (gammaRun b 0 0 n) (shl 13 (gammaRun b 0 0 m))
+-- what the first two words of the run have to solve, so that the two after the sixteenth are those of alpha taken once (k = 0) and
+-- twice (k = 1)
+unfoldable pub gammaSide : List ℕ → ℕ → ℕ
+gammaSide b k = bitXor (gammaRun b 0 0 (k + 16)) (shl 13 (gammaRun b 0 0 (k + 5)))
 
--- the first of the two words for at = 0, the second for at = 1
+-- the words that solve them, the first at = 0 and the second at = 1: row k of the table for each bit k of e, row 64 + k for each of f
 unfoldable pub gammaWord : List ℕ → ℕ → ℕ → ℕ → ℕ
 gammaWord t at e f = bitXor (chosen t at 2 e 64) (chosen t (at + 128) 2 f 64)
 
 -- the backward gamma step solves for two words
 unfoldable pub unGamma : List ℕ → List ℕ
-unGamma b = tab (gammaRun b (gammaWord gammaTable 0 (gammaSide b 16 5) (gammaSide b 17 6)) (gammaWord gammaTable 1 (gammaSide b 16 5) (gammaSide b 17 6))) 16
+unGamma b =
+    tab
+    (gammaRun b (gammaWord gammaTable 0 (gammaSide b 0) (gammaSide b 1)) (gammaWord gammaTable 1 (gammaSide b 0) (gammaSide b 1)))
+    16

@@ -1,4 +1,5 @@
--- The constant words that solve for the back steps; proofs/Tables shows the rule of each over the whole table. Assumes nothing.
+-- The constant words that solve for the back steps (document 01, "Masks"). A reader need not believe them: proofs/Solving shows the
+-- rule of each over the whole table. Assumes nothing.
 use mathlib.Core.List.{List, [], _∷_}
 use Prim.Native.Nat.{ℕ}
 

@@ -65,6 +65,7 @@ fn beta_run(b: [u64; 16], x: u64) -> [u64; 16]
     r
 }
 
+// Solves for the first word; the others follow.
 pub fn back_beta(s: [u64; 16]) -> [u64; 16]
     ensures { λ r. ⌜ (r ≡ unBeta s) × OnlyBlock beta s r ⌝ }
 {
@@ -99,6 +100,7 @@ fn gamma_word(t: &[u64], at: usize, e: u64, f: u64) -> u64
     choose(t, at, 2, e) ^ choose(t, at + 128, 2, f)
 }
 
+// Solves for the first two words; the others follow.
 pub fn back_gamma(s: [u64; 16]) -> [u64; 16]
     ensures { λ r. ⌜ (r ≡ unGamma s) × OnlyBlock gamma s r ⌝ }
 {

@@ -3,13 +3,21 @@ use words::block::xor;
 use words::word::rotate_left;
 use words::word::shift_left;
 ghost use mathlib.Core.Path.{_≡_};
+ghost use Rattle.words.specs.Word.{shl};
 ghost use Rattle.masks.specs.Steps.{alpha as alphaOf, beta as betaOf, gamma as gammaOf};
+
+// Word 5's part in the new word: shifted, so that its top 13 bits are lost.
+fn shifted(y: u64) -> u64
+    ensures { λ r. ⌜ r ≡ shl 13 y ⌝ }
+{
+    shift_left(y, 13)
+}
 
 // Fifteen words move down by one place, and one is new.
 pub fn alpha(s: [u64; 16]) -> [u64; 16]
     ensures { λ r. ⌜ r ≡ alphaOf s ⌝ }
 {
-    let w = rotate_left(s[0], 53) ^ shift_left(s[5], 13);
+    let w = rotate_left(s[0], 53) ^ shifted(s[5]);
     [
         s[1],
         s[2],
@@ -34,7 +42,8 @@ pub fn alpha(s: [u64; 16]) -> [u64; 16]
 pub fn beta(s: [u64; 16]) -> [u64; 16]
     ensures { λ r. ⌜ r ≡ betaOf s ⌝ }
 {
-    xor(alpha(s), s)
+    let once = alpha(s);
+    xor(once, s)
 }
 
 // Alpha taken twice, xor alpha taken once, xor the block.

@@ -1,3 +1,4 @@
+pub mod Answered
 pub mod Demand
 pub mod Order
 pub mod Places

@@ -281,10 +281,10 @@ le-ext (x ∷ xs) [] h = rw (h 0, le-ext xs [] (λ i. h (suc i)))
 le-ext (x ∷ xs) (y ∷ ys) h = rw (h 0, le-ext xs ys (λ i. h (suc i)))
 
 reads : (n k : ℕ) (s t : List ℕ) → ((i : ℕ) → getD s i 0 ≡ getD t i 0) → (i : ℕ) → getD (take n (drop k s)) i 0 ≡ getD (take n (drop k t)) i 0
-reads n k s t h i = elim (decLt i n)
-  [ yes p ↦ getD-take n (drop k s) i 0 p ∙ getD-drop k s i 0 ∙ h (k + i) ∙ sym (getD-take n (drop k t) i 0 p ∙ getD-drop k t i 0)
+reads n k s t h i = elim (decLt i n) [
+  | yes p ↦ getD-take n (drop k s) i 0 p ∙ getD-drop k s i 0 ∙ h (k + i) ∙ sym (getD-take n (drop k t) i 0 p ∙ getD-drop k t i 0)
   | no q ↦ past q s ∙ sym (past q t)
-  ]
+]
   where
     past : (i < n → ⊥) → (l : List ℕ) → getD (take n (drop k l)) i 0 ≡ 0
     past q l = List·getD-eq-default (take n (drop k l)) 0 {n = i} (simp length-take (omega arith))

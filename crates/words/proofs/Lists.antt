@@ -128,23 +128,23 @@ placed f i old xs v h e q =
 pub take-cat : (f : ℕ → List ℕ) (w n k : ℕ) → ((i : ℕ) → length (f i) ≡ w) → k ≤ n → take (w * k) (cat f n) ≡ cat f k
 unfolding cat
 take-cat f w zero k hw h = let e : k ≡ 0 = omega arith in rw (e, mul-zero)
-take-cat f w (suc n) k hw h = elim (decLt n k)
-  [ yes p ↦ let e : k ≡ suc n = omega arith in rw e (take-all (w * suc n) (cat f n ++ f n) (le-of-eq (length-cat f w (suc n) hw)))
+take-cat f w (suc n) k hw h = elim (decLt n k) [
+  | yes p ↦ let e : k ≡ suc n = omega arith in rw e (take-all (w * suc n) (cat f n ++ f n) (le-of-eq (length-cat f w (suc n) hw)))
   | no q ↦ take-append-le (w * k) (cat f n) (f n) (subst (λ (m : ℕ). w * k ≤ m) (sym (length-cat f w n hw)) (mul-le-mul-left w (omega arith)))
       ∙ take-cat f w n k hw (omega arith)
-  ]
+]
 
 -- a list read entry by entry, past its end as zero: one more entry behind those of t
 pub extended : (xs t : List ℕ) (v : ℕ) → length t < length xs → ((j : ℕ) → getD xs j 0 ≡ getD t j 0)
     → (j : ℕ) → getD (set xs (length t) v) j 0 ≡ getD (t ++ (v ∷ [])) j 0
-extended xs t v h e j = elim (decLt j (length t))
-  [ yes p ↦ getD-set-other xs (length t) j v 0 (λ q. omega arith) ∙ e j ∙ sym (List·getD-append t (v ∷ []) 0 j p)
-  | no q ↦ elim (decLt (length t) j)
-    [ yes r ↦ getD-set-other xs (length t) j v 0 (λ u. omega arith) ∙ e j ∙ List·getD-eq-default t 0 {n = j} (omega arith)
+extended xs t v h e j = elim (decLt j (length t)) [
+  | yes p ↦ getD-set-other xs (length t) j v 0 (λ q. omega arith) ∙ e j ∙ sym (List·getD-append t (v ∷ []) 0 j p)
+  | no q ↦ elim (decLt (length t) j) [
+    | yes r ↦ getD-set-other xs (length t) j v 0 (λ u. omega arith) ∙ e j ∙ List·getD-eq-default t 0 {n = j} (omega arith)
         ∙ sym (List·getD-eq-default (t ++ (v ∷ [])) 0 {n = j} (simp length-append (omega arith)))
     | no u ↦ let s : j ≡ length t = omega arith in rw (s, getD-set-same xs (length t) v 0 h) (sym (getD-at t v [] 0 (length t) refl))
-    ]
   ]
+]
 
 pub getD-zeros : (n i : ℕ) → getD (zeros n) i 0 ≡ 0
 unfolding zeros

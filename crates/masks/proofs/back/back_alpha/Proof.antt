@@ -1,4 +1,4 @@
--- Assumes nothing.
+-- A literal of sixteen words is the definition's list, and back-meets says the rest. Assumes nothing.
 use Rattle.words.specs.Block.{Block}
 use Rattle.masks.specs.Steps.{alpha}
 use Rattle.masks.specs.BackSteps.{unAlpha}

@@ -1,4 +1,4 @@
--- Assumes nothing.
+-- The calls in turn give the definition, and back-meets says the rest. Assumes nothing.
 use Rattle.masks.specs.Steps.{gamma}
 use Rattle.masks.specs.Tables.{gammaTable}
 use Rattle.masks.specs.BackSteps.{unGamma}

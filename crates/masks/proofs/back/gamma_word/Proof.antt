@@ -1,4 +1,4 @@
--- Assumes nothing.
+-- Two calls, one after the other. Assumes nothing.
 use Rattle.masks.specs.BackSteps.{gammaWord}
 use borrow.Author.Needs.{needs}
 use Rattle.masks.proofs.back.gamma_word.Statement.{statement}

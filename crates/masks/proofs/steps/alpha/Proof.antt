@@ -1,4 +1,4 @@
--- Assumes nothing.
+-- A literal of sixteen words is the definition's list. Assumes nothing.
 use Rattle.words.specs.Block.{Block}
 use Rattle.masks.specs.Steps.{alphaW}
 use Rattle.masks.proofs.Arrays.{array-block, alpha-words}
@@ -12,11 +12,11 @@ array-read-rotate-left c = search needs
 rotate-left-requires : tie.Need-rotate-left-requires
 rotate-left-requires c κs = search needs
 
-array-read-shift-left : tie.Need-array-read-shift-left
-array-read-shift-left c = search needs
+array-read-shifted : tie.Need-array-read-shifted
+array-read-shifted c = search needs
 
-shift-left-requires : tie.Need-shift-left-requires
-shift-left-requires c κs = search needs
+shifted-requires : tie.Need-shifted-requires
+shifted-requires c κs = search needs
 
 array-read-t4 : tie.Need-array-read-t4
 array-read-t4 c = search needs
@@ -68,7 +68,7 @@ unfolding alphaW
 returns c =
     let s = c .before .before .args .t1 in
     let h : Block s = array-block _ _ (c .before .before .good .0) in
-    rw (alpha-words s h, c .shift-left .ensures, c .before .rotate-left .ensures)
+    rw (alpha-words s h, c .shifted .ensures, c .before .rotate-left .ensures)
 
 pub alpha-spec : {M : Type 1} → statement M
 alpha-spec =
@@ -76,8 +76,8 @@ alpha-spec =
     (tie.spec
     array-read-rotate-left
     rotate-left-requires
-    array-read-shift-left
-    shift-left-requires
+    array-read-shifted
+    shifted-requires
     array-read-t4
     array-read-t11
     array-read-t8

@@ -1,4 +1,4 @@
--- Assumes nothing.
+-- Two calls, one after the other. Assumes nothing.
 use Rattle.masks.specs.Steps.{beta}
 use borrow.Author.Needs.{needs}
 use Rattle.masks.proofs.steps.beta.Statement.{statement}

@@ -1,4 +1,4 @@
--- Assumes nothing.
+-- Four calls, one after the other. Assumes nothing.
 use Rattle.masks.specs.Steps.{gamma}
 use borrow.Author.Needs.{needs}
 use Rattle.masks.proofs.steps.gamma.Statement.{statement}

@@ -1,0 +1,47 @@
+-- The bench sheet's cases that are proved, P1 to P8, as rows of one table (document 01, "Bench sheet"). Assumes nothing.
+use mathlib.Core.Path.{_≡_}
+use mathlib.Core.Bool.{Bool, true, _&&_}
+use mathlib.Core.List.{List, [], _∷_}
+use Prim.Native.Nat.{ℕ, _<_}
+use lib.ListN.{length, getD, set}
+use Rattle.words.specs.Block.{zeroBlock}
+use Rattle.permutation.specs.Permutation.{Quad, gOf, round}
+use Rattle.masks.specs.Steps.{alpha, beta}
+use Rattle.masks.specs.BackSteps.{unAlpha}
+use Rattle.blockplan.specs.Plan.{same}
+
+-- a case: what the definitions give, and what the sheet says
+pub record Row : Type 0 where
+  pub got : List ℕ
+  pub want : List ℕ
+
+-- words not named are zero
+unfoldable pub word : ℕ → ℕ → List ℕ
+word i w = set zeroBlock i w
+
+-- G of four words, as a list
+unfoldable pub g : ℕ → ℕ → ℕ → ℕ → List ℕ
+g a b c d =
+    let q = gOf (record { a = a; b = b; c = c; d = d }) in
+    q .a ∷ q .b ∷ q .c ∷ q .d ∷ []
+
+unfoldable pub table : List Row
+table =
+    record { got = g 1 0 0 0; want = 0x101 ∷ 0x0202000200020200 ∷ 0x0101000100010000 ∷ 0x0101000000010000 ∷ [] }  -- P1
+    ∷ record { got = round zeroBlock; want = zeroBlock }  -- P2
+    ∷ record { got = alpha (word 0 1); want = word 15 0x0020000000000000 }  -- P3
+    ∷ record { got = alpha (word 0 0x800); want = word 15 1 }  -- P4
+    ∷ record { got = alpha (word 5 1); want = set (word 4 1) 15 0x2000 }  -- P5
+    ∷ record { got = alpha (word 5 0x0008000000000000); want = word 4 0x0008000000000000 }  -- P6
+    ∷ record { got = beta (word 0 1); want = set (word 0 1) 15 0x0020000000000000 }  -- P7
+    ∷ record { got = unAlpha (word 15 1); want = word 0 0x800 }  -- P8
+    ∷ []
+
+-- the test that is computed over the whole table
+unfoldable pub right : List Row → Bool
+right [] = true
+right (row ∷ rows) = same (row .got) (row .want) && right rows
+
+-- what the test says of each row
+pub record Holds (rows : List Row) : Type 0 where
+  pub row : (i : ℕ) → i < length rows → getD rows i (record { got = []; want = [] }) .got ≡ getD rows i (record { got = []; want = [] }) .want
