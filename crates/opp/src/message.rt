@@ -16,8 +16,9 @@ ghost use mathlib.Core.Bool.{cond};
 ghost use mathlib.Core.List.{_++_};
 ghost use Prim.Native.Nat.{_*_, _≤_};
 ghost use lib.ListN.{length, drop};
-ghost use Rattle.words.specs.Sequence.{cat};
+ghost use Rattle.words.specs.Sequence.{cat, times};
 ghost use Rattle.words.specs.Block.{blockOf, bytesOf, xorBlock};
+ghost use Rattle.masks.specs.Steps.{alpha as alphaOf};
 ghost use Rattle.mem.specs.Mem.{maskAt};
 ghost use Rattle.blockplan.specs.Plan.{whole, hasLeft, xorOver};
 ghost use Rattle.opp.specs.Opp.{oppCheck};
@@ -54,20 +55,20 @@ fn pass_block(
     }
 }
 
-// The whole blocks, each written at its own offset. The mask after them is (m, 0, 1).
+// The whole blocks, each written at its own offset, the first under the mask given.
 fn pass_blocks(
-    start: [u64; 16],
+    first: [u64; 16],
     rounds: u32,
     s: &[u8],
     opening: bool,
     out: &mut [u8],
 ) -> Passed
     requires { ⌜ length (now s) ≤ length (now out) ⌝ }
-    ensures { λ _. ⌜ now (out .exit) ≡ cat (bytesAt opening rounds start (now (s .entry))) (whole (now (s .entry))) ++ drop (128 * whole (now (s .entry))) (now (out .entry)) ⌝ }
-    ensures { λ r. ⌜ (r .check ≡ xorOver (plainAt opening rounds start (now (s .entry))) (whole (now (s .entry)))) × (r .mask ≡ maskAt start (whole (now (s .entry))) 0 1) ⌝ }
+    ensures { λ _. ⌜ now (out .exit) ≡ cat (bytesAt opening rounds first (now (s .entry))) (whole (now (s .entry))) ++ drop (128 * whole (now (s .entry))) (now (out .entry)) ⌝ }
+    ensures { λ r. ⌜ (r .check ≡ xorOver (plainAt opening rounds first (now (s .entry))) (whole (now (s .entry)))) × (r .mask ≡ times alphaOf (whole (now (s .entry))) first) ⌝ }
 {
     let mut check = zero();
-    let mut mask = gamma(start);
+    let mut mask = first;
     let count = s.len() / 128;
     let mut i: usize = 0;
     while i < count {
@@ -94,7 +95,7 @@ pub fn pass(start: [u64; 16], rounds: u32, s: &[u8], opening: bool, out: &mut [u
     ensures { λ _. ⌜ now (out .exit) ≡ passed opening rounds start (now (s .entry)) ++ drop (length (now (s .entry))) (now (out .entry)) ⌝ }
     ensures { λ r. ⌜ (r .check ≡ oppCheck (plain opening rounds start (now (s .entry)))) × (r .mask ≡ maskAt start (whole (now (s .entry))) (cond (hasLeft (now (s .entry))) 1 0) 1) ⌝ }
 {
-    let blocks = pass_blocks(start, rounds, s, opening, out);
+    let blocks = pass_blocks(gamma(start), rounds, s, opening, out);
     let n = s.len();
     let at = 128 * (n / 128);
     if at == n {

@@ -1,3 +1,4 @@
+use Rattle.opp.specs.Pass.{crossed}
 use borrow.Author.Needs.{needs}
 use Rattle.opp.proofs.message.pass_block.Statement.{statement}
 use Rattle.opp.proofs.message.pass_block.Tie as tie
@@ -43,7 +44,12 @@ same-length c = search needs
 
 -- src/message.rt:34:1
 returns : tie.Need-returns
-returns c = search needs
+unfolding crossed
+returns c =
+    let given = c .before .before .before .before .before .before .before .load .ensures in
+    let made = c .before .before .before .before .before .decipher .ensures in
+    rw (c .before .before .before .before .before .before .if1 .taken)
+    (rw (c .before .before .before .store .ensures, made, given), rw (c .xor .ensures, made, given))
 
 -- src/message.rt:34:1
 same-length-2 : tie.Need-same-length-2
@@ -51,7 +57,12 @@ same-length-2 c = search needs
 
 -- src/message.rt:34:1
 returns-2 : tie.Need-returns-2
-returns-2 c = search needs
+unfolding crossed
+returns-2 c =
+    let given = c .before .before .before .before .before .before .before .load .ensures in
+    let made = c .before .before .before .before .before .encipher .ensures in
+    rw (c .before .before .before .before .before .before .if1 .left)
+    (rw (c .before .before .before .store2 .ensures, made, given), rw (c .xor2 .ensures, given))
 
 pub pass-block-spec : {M : Type 1} → statement M
 pass-block-spec =

@@ -1,3 +1,10 @@
+-- With a leftover and without. Assumes nothing.
+use mathlib.Core.Path.{sym, _∙_}
+use denote.Ref.{now}
+use Rattle.words.proofs.Lists.{tailPart}
+use Rattle.blockplan.specs.Plan.{whole, left}
+use Rattle.opp.specs.Opp.{padded}
+use Rattle.opp.proofs.Sums.{sum-none, sum-some}
 use borrow.Author.Needs.{needs}
 use Rattle.opp.proofs.tag.header_sum.Statement.{statement}
 use Rattle.opp.proofs.tag.header_sum.Tie as tie
@@ -19,7 +26,10 @@ mul-at c = search needs
 
 -- src/tag.rt:22:9
 returns : tie.Need-returns
-returns c = search needs
+unfolding whole
+returns c =
+    let a = c .before .before .before .before .args in
+    c .before .before .absorb .ensures .0 ∙ sym (sum-none (a .rounds) (a .start) (now (a .header)) (c .if1 .taken))
 
 -- src/tag.rt:25:32
 sub-padded : tie.Need-sub-padded
@@ -51,7 +61,12 @@ xor-requires c κs = search needs
 
 -- src/tag.rt:15:1
 returns-2 : tie.Need-returns-2
-returns-2 c = search needs
+unfolding whole left padded
+returns-2 c =
+    let whole-blocks = c .before .before .before .before .before .before .before .before .absorb .ensures in
+    let a = c .before .before .before .before .before .before .before .before .before .before .args in
+    rw (c .xor .ensures, c .before .encipher .ensures, c .before .before .beta .ensures, c .before .before .before .padded .ensures, whole-blocks .0, whole-blocks .1, tailPart)
+    (sym (sum-some (a .rounds) (a .start) (now (a .header)) (c .before .before .before .before .before .before .if1 .left)))
 
 pub header-sum-spec : {M : Type 1} → statement M
 header-sum-spec =

@@ -1,3 +1,4 @@
+-- The calls, one inside the other. Assumes nothing.
 use borrow.Author.Needs.{needs}
 use Rattle.opp.proofs.tag.tag_block.Statement.{statement}
 use Rattle.opp.proofs.tag.tag_block.Tie as tie
@@ -30,7 +31,7 @@ xor-requires c κs = search needs
 
 -- src/tag.rt:30:1
 returns : tie.Need-returns
-returns c = search needs
+returns c = rw (c .xor .ensures, c .before .encipher .ensures, c .before .before .beta2 .ensures, c .before .before .before .beta .ensures, c .before .before .before .before .header-sum .ensures)
 
 pub tag-block-spec : {M : Type 1} → statement M
 tag-block-spec =

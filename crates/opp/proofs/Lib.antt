@@ -1,0 +1,4 @@
+pub mod Steps
+pub mod Sums
+pub mod Passes
+pub mod Opened
