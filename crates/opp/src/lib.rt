@@ -1,16 +1,17 @@
 // OPP over a start block and a round count: one pass over the message, whose masks step on from
 // block to block.
+use crate::message::pass;
+use crate::tag::tag_block;
 use blockplan::tag::keep;
 use blockplan::tag::same_tag;
 use blockplan::tag::store_tag;
-use crate::message::pass;
-use crate::tag::tag_block;
 ghost use mathlib.Core.Path.{_≡_};
 ghost use mathlib.Core.List.{_++_};
 ghost use Prim.Native.Nat.{_+_, _≤_};
 ghost use lib.ListN.{length, drop};
 ghost use Rattle.blockplan.specs.Plan.{opened, cipherPart, tagPart};
 ghost use Rattle.opp.specs.Opp.{oppTag, oppCipher, oppPlain};
+
 pub mod message;
 pub mod tag;
 

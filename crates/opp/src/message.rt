@@ -14,14 +14,14 @@ use words::block::zero;
 ghost use mathlib.Core.Path.{_≡_};
 ghost use mathlib.Core.Bool.{cond};
 ghost use mathlib.Core.List.{_++_};
-ghost use Prim.Native.Nat.{_*_, _≤_};
+ghost use Prim.Native.Nat.{_*_, _<_, _≤_};
 ghost use lib.ListN.{length, drop};
 ghost use Rattle.words.specs.Sequence.{cat, times};
-ghost use Rattle.words.specs.Block.{blockOf, bytesOf, xorBlock};
-ghost use Rattle.masks.specs.Steps.{alpha as alphaOf};
-ghost use Rattle.mem.specs.Mem.{maskAt};
+ghost use Rattle.words.specs.Block.{blockOf, bytesOf, xorBlock, xorBytes, zeroBlock};
+ghost use Rattle.masks.specs.Steps.{alpha as alphaOf, beta as betaOf};
+ghost use Rattle.mem.specs.Mem.{maskAt, under};
 ghost use Rattle.blockplan.specs.Plan.{whole, hasLeft, xorOver};
-ghost use Rattle.opp.specs.Opp.{oppCheck};
+ghost use Rattle.opp.specs.Opp.{padded as paddedOf, oppCheck};
 ghost use Rattle.opp.specs.Pass.{crossed, bytesAt, plainAt, passed, plain};
 
 // The check so far, and the running mask.
@@ -56,13 +56,7 @@ fn pass_block(
 }
 
 // The whole blocks, each written at its own offset, the first under the mask given.
-fn pass_blocks(
-    first: [u64; 16],
-    rounds: u32,
-    s: &[u8],
-    opening: bool,
-    out: &mut [u8],
-) -> Passed
+fn pass_blocks(first: [u64; 16], rounds: u32, s: &[u8], opening: bool, out: &mut [u8]) -> Passed
     requires { ⌜ length (now s) ≤ length (now out) ⌝ }
     ensures { λ _. ⌜ now (out .exit) ≡ cat (bytesAt opening rounds first (now (s .entry))) (whole (now (s .entry))) ++ drop (128 * whole (now (s .entry))) (now (out .entry)) ⌝ }
     ensures { λ r. ⌜ (r .check ≡ xorOver (plainAt opening rounds first (now (s .entry))) (whole (now (s .entry)))) × (r .mask ≡ times alphaOf (whole (now (s .entry))) first) ⌝ }
@@ -82,11 +76,32 @@ fn pass_blocks(
     Passed { check, mask }
 }
 
-// Which of a leftover's two forms is the message's.
-fn choose(opening: bool, made: [u64; 16], given: [u64; 16]) -> [u64; 16]
-    ensures { λ r. ⌜ r ≡ cond opening made given ⌝ }
+// The plain one of a leftover's two forms, padded.
+fn padded_plain(opening: bool, made: &[u8], given: &[u8]) -> [u64; 16]
+    requires { ⌜ (length (now made) < 128) × (length (now given) < 128) ⌝ }
+    ensures { λ r. ⌜ r ≡ paddedOf (cond opening (now (made .entry)) (now (given .entry))) ⌝ }
 {
-    if opening { made } else { given }
+    if opening {
+        padded(made, 1)
+    } else {
+        padded(given, 1)
+    }
+}
+
+// The leftover, under a mask a beta step on from that of the whole blocks.
+fn pass_leftover(blocks: Passed, rounds: u32, s: &[u8], opening: bool, out: &mut [u8]) -> Passed
+    requires { ⌜ (length (now s) < 128) × (length (now s) ≤ length (now out)) ⌝ }
+    ensures { λ _. ⌜ now (out .exit) ≡ xorBytes (now (s .entry)) (bytesOf (under rounds (betaOf (blocks .mask)) zeroBlock)) ++ drop (length (now (s .entry))) (now (out .entry)) ⌝ }
+    ensures { λ r. ⌜ (r .check ≡ xorBlock (blocks .check) (paddedOf (cond opening (xorBytes (now (s .entry)) (bytesOf (under rounds (betaOf (blocks .mask)) zeroBlock))) (now (s .entry))))) × (r .mask ≡ betaOf (blocks .mask)) ⌝ }
+{
+    let before = blocks.mask;
+    let mask = beta(before);
+    xor_leftover(s, encipher(zero(), mask, rounds), out);
+    let n = s.len();
+    let last = padded_plain(opening, &out[..n], s);
+    let sum = blocks.check;
+    let check = xor(sum, last);
+    Passed { check, mask }
 }
 
 // All bytes. The mask after them is (m, 0, 1), or (m, 1, 1) where there is a leftover.
@@ -101,11 +116,5 @@ pub fn pass(start: [u64; 16], rounds: u32, s: &[u8], opening: bool, out: &mut [u
     if at == n {
         return blocks;
     }
-    let before = blocks.mask;
-    let mask = beta(before);
-    xor_leftover(&s[at..], encipher(zero(), mask, rounds), &mut out[at..]);
-    let last = choose(opening, padded(&out[at..n], 1), padded(&s[at..], 1));
-    let sum = blocks.check;
-    let check = xor(sum, last);
-    Passed { check, mask }
+    pass_leftover(blocks, rounds, &s[at..], opening, &mut out[at..])
 }

@@ -1,7 +1,7 @@
 // The sum over the header, and the block whose first 32 bytes are the tag.
+use crate::message::Passed;
 use blockplan::absorb::absorb;
 use blockplan::leftover::padded;
-use crate::message::Passed;
 use masks::steps::beta;
 use mem::cipher::encipher;
 use words::block::xor;

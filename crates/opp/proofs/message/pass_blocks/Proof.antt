@@ -16,74 +16,55 @@ use Rattle.opp.proofs.Passes.{length-bytesAt}
 use borrow.Author.Needs.{needs}
 use Rattle.opp.proofs.message.pass_blocks.Statement.{statement}
 use Rattle.opp.proofs.message.pass_blocks.Tie as tie
-use Rattle.opp.proofs.message.pass_blocks.Reads as reads
-use Rattle.opp.proofs.message.pass_blocks.Lts as lts
-use Rattle.masks.proofs.steps.alpha.Reads as alpha-reads
-use Rattle.opp.proofs.message.pass_block.Reads as pass-block-reads
-use Rattle.words.proofs.block.zero.Reads as zero-reads
 
 abbrev Inv-loop : tie.InvT-loop
-Inv-loop rounds s opening out₀ check₀ mask₀ count i₀ out check mask i = 
+Inv-loop rounds s opening out₀ check₀ mask₀ count i₀ out check mask i =
     (i ≤ count) × ((count ≡ length s / 128) × ((length out ≡ length out₀) × ((out ≡ cat (bytesAt opening rounds mask₀ s) i ++ drop (128 * i) out₀)
     × ((check ≡ xorOver (plainAt opening rounds mask₀ s) i) × (mask ≡ times alpha i mask₀)))))
 
 abbrev μ-loop : tie.MeasureT-loop
 μ-loop rounds s opening out₀ check₀ mask₀ count i₀ out check mask i = count - i
 
--- src/message.rt:70:9
 zero-requires : tie.Need-zero-requires Inv-loop μ-loop
 zero-requires c κs = search needs
 
--- src/message.rt:74:5
 loop-holds : tie.Need-loop-holds Inv-loop μ-loop
 unfolding cat xorOver fold times
 loop-holds c = (search needs, (refl, (refl, (refl, (c .zero .ensures, refl)))))
 
--- src/message.rt:75:18
 mul-at : tie.Need-mul-at Inv-loop μ-loop
 mul-at c = search needs
 
--- src/message.rt:76:52
 sub-pass-block : tie.Need-sub-pass-block Inv-loop μ-loop
 sub-pass-block c = search needs
 
--- src/message.rt:76:52
 part-pass-block-start : tie.Need-part-pass-block-start Inv-loop μ-loop
 part-pass-block-start c = search needs
 
--- src/message.rt:76:52
 part-pass-block-end : tie.Need-part-pass-block-end Inv-loop μ-loop
 part-pass-block-end c = search needs
 
--- src/message.rt:76:71
 sub-pass-block-2 : tie.Need-sub-pass-block-2 Inv-loop μ-loop
 sub-pass-block-2 c = search needs
 
--- src/message.rt:76:71
 part-pass-block-start-2 : tie.Need-part-pass-block-start-2 Inv-loop μ-loop
 part-pass-block-start-2 c = search needs
 
--- src/message.rt:76:71
 part-pass-block-end-2 : tie.Need-part-pass-block-end-2 Inv-loop μ-loop
 part-pass-block-end-2 c = search needs
 
--- src/message.rt:76:13
 pass-block-requires : tie.Need-pass-block-requires Inv-loop μ-loop
 pass-block-requires c κs = search needs
 
--- src/message.rt:78:13
 alpha-requires : tie.Need-alpha-requires Inv-loop μ-loop
 alpha-requires c κs = search needs
 
--- src/message.rt:80:9
 add-i : tie.Need-add-i Inv-loop μ-loop
 add-i c = search needs
 
--- src/message.rt:74:5
 loop-less : tie.Need-loop-less Inv-loop μ-loop
 loop-less c = search needs
 
--- src/message.rt:74:5
 loop-again : tie.Need-loop-again Inv-loop μ-loop
 unfolding bytesAt plainAt crossedAt blockAt
 loop-again c =
@@ -107,11 +88,9 @@ loop-again c =
       ),
     )
 
--- src/message.rt:59:1
 same-length : tie.Need-same-length Inv-loop μ-loop
 same-length c = search needs
 
--- src/message.rt:59:1
 returns : tie.Need-returns Inv-loop μ-loop
 unfolding whole
 returns c =

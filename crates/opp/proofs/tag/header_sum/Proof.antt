@@ -8,58 +8,40 @@ use Rattle.opp.proofs.Sums.{sum-none, sum-some}
 use borrow.Author.Needs.{needs}
 use Rattle.opp.proofs.tag.header_sum.Statement.{statement}
 use Rattle.opp.proofs.tag.header_sum.Tie as tie
-use Rattle.opp.proofs.tag.header_sum.Reads as reads
-use Rattle.opp.proofs.tag.header_sum.Lts as lts
-use Rattle.blockplan.proofs.absorb.absorb.Reads as absorb-reads
-use Rattle.blockplan.proofs.leftover.padded.Reads as padded-reads
-use Rattle.masks.proofs.steps.beta.Reads as beta-reads
-use Rattle.mem.proofs.cipher.encipher.Reads as encipher-reads
-use Rattle.words.proofs.block.xor.Reads as xor-reads
 
--- src/tag.rt:18:9
 absorb-requires : tie.Need-absorb-requires
 absorb-requires c κs = search needs
 
--- src/tag.rt:20:14
 mul-at : tie.Need-mul-at
 mul-at c = search needs
 
--- src/tag.rt:22:9
 returns : tie.Need-returns
 unfolding whole
 returns c =
     let a = c .before .before .before .before .args in
     c .before .before .absorb .ensures .0 ∙ sym (sum-none (a .rounds) (a .start) (now (a .header)) (c .if1 .taken))
 
--- src/tag.rt:25:32
 sub-padded : tie.Need-sub-padded
 sub-padded c = search needs
 
--- src/tag.rt:25:32
 part-padded-start : tie.Need-part-padded-start
 part-padded-start c = search needs
 
--- src/tag.rt:25:32
 part-padded-end : tie.Need-part-padded-end
 part-padded-end c = search needs
 
--- src/tag.rt:25:25
 padded-requires : tie.Need-padded-requires
 padded-requires c κs = search needs
 
--- src/tag.rt:25:51
 beta-requires : tie.Need-beta-requires
 beta-requires c κs = search needs
 
--- src/tag.rt:25:9
 encipher-requires : tie.Need-encipher-requires
 encipher-requires c κs = search needs
 
--- src/tag.rt:26:5
 xor-requires : tie.Need-xor-requires
 xor-requires c κs = search needs
 
--- src/tag.rt:15:1
 returns-2 : tie.Need-returns-2
 unfolding whole left padded
 returns-2 c =

@@ -2,34 +2,22 @@
 use borrow.Author.Needs.{needs}
 use Rattle.opp.proofs.tag.tag_block.Statement.{statement}
 use Rattle.opp.proofs.tag.tag_block.Tie as tie
-use Rattle.opp.proofs.tag.tag_block.Reads as reads
-use Rattle.opp.proofs.tag.tag_block.Lts as lts
-use Rattle.masks.proofs.steps.beta.Reads as beta-reads
-use Rattle.mem.proofs.cipher.encipher.Reads as encipher-reads
-use Rattle.opp.proofs.tag.header_sum.Reads as header-sum-reads
-use Rattle.words.proofs.block.xor.Reads as xor-reads
 
--- src/tag.rt:35:9
 header-sum-requires : tie.Need-header-sum-requires
 header-sum-requires c κs = search needs
 
--- src/tag.rt:36:35
 beta-requires : tie.Need-beta-requires
 beta-requires c κs = search needs
 
--- src/tag.rt:36:30
 beta-requires-2 : tie.Need-beta-requires-2
 beta-requires-2 c κs = search needs
 
--- src/tag.rt:36:14
 encipher-requires : tie.Need-encipher-requires
 encipher-requires c κs = search needs
 
--- src/tag.rt:36:5
 xor-requires : tie.Need-xor-requires
 xor-requires c κs = search needs
 
--- src/tag.rt:30:1
 returns : tie.Need-returns
 returns c = rw (c .xor .ensures, c .before .encipher .ensures, c .before .before .beta2 .ensures, c .before .before .before .beta .ensures, c .before .before .before .before .header-sum .ensures)
 
