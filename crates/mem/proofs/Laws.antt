@@ -6,9 +6,9 @@ use native.Mathlib.Omega.{arith}
 use lib.Dec.{lit<}
 use lib.ListN.{length, getD, length-append}
 use Rattle.words.specs.Sequence.{tab, times, zeros}
-use Rattle.words.specs.Block.{Block, Bytes, wordAt, blockOf, xorBlock}
+use Rattle.words.specs.Block.{Block, Bytes, wordAt, blockOf, xorBlock, zeroBlock}
 use Rattle.words.proofs.Lists.{length-tab, getD-tab}
-use Rattle.words.proofs.Blocks.{xor-block, xorBlock-cancel, below-tab, block-blockOf}
+use Rattle.words.proofs.Blocks.{xor-block, xorBlock-cancel, xorBlock-zero, zero-block, below-tab, block-blockOf}
 use Rattle.words.proofs.Times.{times-keeps, times-commute}
 use Rattle.permutation.specs.Permutation.{perm, unPerm}
 use Rattle.permutation.proofs.Undone.{perm-block, unPerm-block, unPerm-perm, perm-unPerm}
@@ -92,13 +92,23 @@ below-append m [] t hs ht i = ht i
 below-append m (x ∷ s) t hs ht zero = hs 0
 below-append m (x ∷ s) t hs ht (suc i) = below-append m s t (λ j. hs (suc j)) ht i
 
-pub start-block : (rounds : ℕ) (key nonce : List ℕ) → Bytes key → Bytes nonce → Block (startOf rounds key nonce)
-unfolding startOf startBlock zeros
-start-block rounds key nonce hk hn =
-    perm-block rounds (startBlock key nonce) (record {
+pub first-block : (key nonce : List ℕ) → Bytes key → Bytes nonce → Block (startBlock key nonce)
+unfolding startBlock zeros
+first-block key nonce hk hn = record {
       long = simp (length-append, length-tab);
       words = below-append (2 ^ 64) (tab (wordAt nonce) 2) (tab (λ i. 0) 10 ++ tab (wordAt key) 4)
           (below-tab (wordAt nonce) 2 (2 ^ 64) (lit< tt) (λ i p. word-lt nonce hn i (omega arith)))
           (below-append (2 ^ 64) (tab (λ i. 0) 10) (tab (wordAt key) 4) (below-tab (λ i. 0) 10 (2 ^ 64) (lit< tt) (λ i p. lit< tt))
           (below-tab (wordAt key) 4 (2 ^ 64) (lit< tt) (λ i p. word-lt key hk i (omega arith))));
-    })
+    }
+
+pub start-block : (rounds : ℕ) (key nonce : List ℕ) → Bytes key → Bytes nonce → Block (startOf rounds key nonce)
+unfolding startOf
+start-block rounds key nonce hk hn = perm-block rounds (startBlock key nonce) (first-block key nonce hk hn)
+
+-- under the zero mask E is P
+pub under-zero : (n : ℕ) (block : List ℕ) → Block block → under n zeroBlock block ≡ perm n block
+unfolding under
+under-zero n block b =
+    xorBlock-zero (perm n (xorBlock block zeroBlock)) (perm-block n (xorBlock block zeroBlock) (xor-block block zeroBlock b zero-block))
+    ∙ ap (perm n) (xorBlock-zero block b)

@@ -50,8 +50,9 @@ fn pass_block(
         store(made, out);
         xor(check, made)
     } else {
+        let sum = xor(check, given);
         store(encipher(given, mask, rounds), out);
-        xor(check, given)
+        sum
     }
 }
 
