@@ -1,8 +1,8 @@
 -- The pass over the message: what it writes and checks, block by block and of the leftover. Assumes nothing.
-use mathlib.Core.Path.{_≡_, refl, sym, ap, ap₂, _∙_, subst}
+use mathlib.Core.Path.{_≡_, refl, sym, ap, _∙_}
 use mathlib.Core.Bool.{Bool, true, false, cond}
-use mathlib.Core.List.{List, [], _∷_, _++_, append-nil, append-assoc}
-use Prim.Native.Nat.{ℕ, zero, suc, _+_, _-_, _*_, _/_, _≤_, _<_}
+use mathlib.Core.List.{List, _++_, append-nil, append-assoc}
+use Prim.Native.Nat.{ℕ, _+_, _-_, _*_, _<_}
 use native.Mathlib.Omega.{arith}
 use lib.ListN.{length, take, drop}
 use borrow.Rule.Slice.PartMut.{putMid}
@@ -11,7 +11,7 @@ use Rattle.words.specs.Block.{Block, Bytes, bytesOf, xorBlock, xorBytes, zeroBl
 use Rattle.words.proofs.Lists.{length-cat, cat-ext}
 use Rattle.words.proofs.Blocks.{length-bytesOf}
 use Rattle.masks.specs.Steps.{alpha, beta, gamma}
-use Rattle.mem.specs.Mem.{maskAt, under, unUnder, encipher, decipher}
+use Rattle.mem.specs.Mem.{maskAt, under, encipher, decipher}
 use Rattle.mem.proofs.Laws.{mask-alpha, decipher-block}
 use Rattle.blockplan.specs.Plan.{whole, left, hasLeft, blockAt, xorOver, xorIf, ciphered, tagBytes}
 use Rattle.blockplan.proofs.Plans.{xorOver-ext}
@@ -84,22 +84,22 @@ module _ (rounds : ℕ) (start s : List ℕ) (l : Block start) where
     -- ---- no leftover
 
     module _ (opening : Bool) (e : 128 * whole s ≡ length s) where
-      pub whole-written : (out : List ℕ)
-          → cat (bytesAt opening rounds (gamma start) s) (whole s) ++ drop (128 * whole s) out ≡ passed opening rounds start s ++ drop (length s) out
+      pub whole-written : (out xs : List ℕ) → xs ≡ cat (bytesAt opening rounds (gamma start) s) (whole s) ++ drop (128 * whole s) out
+          → xs ≡ passed opening rounds start s ++ drop (length s) out
       unfolding xorBytes tab
-      whole-written out = rw (passed-is opening, left-none s e, append-nil, e)
+      whole-written out xs p = p ∙ rw (passed-is opening, left-none s e, append-nil, e)
 
-      pub whole-check : xorOver (plainAt opening rounds (gamma start) s) (whole s) ≡ oppCheck (plain opening rounds start s)
+      pub whole-check : (check : List ℕ) → check ≡ xorOver (plainAt opening rounds (gamma start) s) (whole s) → check ≡ oppCheck (plain opening rounds start s)
       unfolding xorIf
-      whole-check = rw (check-is opening, no-left s e)
+      whole-check check p = p ∙ rw (check-is opening, no-left s e)
 
-      pub whole-mask : times alpha (whole s) (gamma start) ≡ maskAt start (whole s) (cond (hasLeft s) 1 0) 1
-      whole-mask = rw (no-left s e) mask-blocks
+      pub whole-mask : (mask : List ℕ) → mask ≡ times alpha (whole s) (gamma start) → mask ≡ maskAt start (whole s) (cond (hasLeft s) 1 0) 1
+      whole-mask mask p = p ∙ rw (no-left s e) mask-blocks
 
     -- ---- a leftover
 
     module _ (opening : Bool) (q : 128 * whole s ≡ length s → ⊥) where
-      -- the leftover came back at the front of the part behind the whole blocks
+      -- it came back at the front of the part behind the whole blocks
       pub left-written : (out xs ys : List ℕ) → xs ≡ cat (bytesAt opening rounds (gamma start) s) (whole s) ++ drop (128 * whole s) out
           → ys ≡ xorBytes (left s) (bytesOf leftStream) ++ drop (length (left s)) (take (length xs - 128 * whole s) (drop (128 * whole s) xs))
           → putMid (128 * whole s) (length xs - 128 * whole s) xs ys ≡ passed opening rounds start s ++ drop (length s) out
@@ -109,13 +109,14 @@ module _ (rounds : ℕ) (start s : List ℕ) (l : Block start) where
           (front-length opening rounds (gamma start) s) e p
           ∙ rw (passed-is opening, append-assoc, n, stream-is)
 
-      pub left-check : xorBlock (xorOver (plainAt opening rounds (gamma start) s) (whole s)) (padded (cond opening (xorBytes (left s) (bytesOf leftStream)) (left s)))
-          ≡ oppCheck (plain opening rounds start s)
+      pub left-check : (check : List ℕ)
+          → check ≡ xorBlock (xorOver (plainAt opening rounds (gamma start) s) (whole s)) (padded (cond opening (xorBytes (left s) (bytesOf leftStream)) (left s)))
+          → check ≡ oppCheck (plain opening rounds start s)
       unfolding xorIf
-      left-check = rw (check-is opening, some-left s q, stream-is)
+      left-check check p = p ∙ rw (check-is opening, some-left s q, stream-is)
 
-      pub left-mask : beta (times alpha (whole s) (gamma start)) ≡ maskAt start (whole s) (cond (hasLeft s) 1 0) 1
-      left-mask = rw (some-left s q) mask-left
+      pub left-mask : (mask : List ℕ) → mask ≡ beta (times alpha (whole s) (gamma start)) → mask ≡ maskAt start (whole s) (cond (hasLeft s) 1 0) 1
+      left-mask mask p = p ∙ rw (some-left s q) mask-left
 
     -- ---- the tag
 
@@ -134,11 +135,12 @@ module _ (rounds : ℕ) (start s : List ℕ) (l : Block start) where
     two-on true = ap beta (beta-on start l (whole s) 1 1) ∙ beta-on start l (whole s) 2 1
     two-on false = ap beta (beta-on start l (whole s) 0 1) ∙ beta-on start l (whole s) 1 1
 
-    pub tag-is : (opening : Bool) (header : List ℕ)
-        → tagBytes (xorBlock (oppSum rounds start header) (under rounds (beta (beta (maskAt start (whole s) (cond (hasLeft s) 1 0) 1))) (oppCheck (plain opening rounds start s))))
-        ≡ oppTag rounds start header (plain opening rounds start s)
+    -- the tag, from a block made of the sum, the message's last mask and the check
+    pub tag-is : (opening : Bool) (header block mask check : List ℕ) → mask ≡ maskAt start (whole s) (cond (hasLeft s) 1 0) 1
+        → check ≡ oppCheck (plain opening rounds start s) → block ≡ xorBlock (oppSum rounds start header) (under rounds (beta (beta mask)) check)
+        → tagBytes block ≡ oppTag rounds start header (plain opening rounds start s)
     unfolding oppTag encipher
-    tag-is opening header = rw (whole-plain opening, hasLeft-plain opening, two-on (hasLeft s))
+    tag-is opening header block mask check m c e = rw (e, m, c, whole-plain opening, hasLeft-plain opening, two-on (hasLeft s))
 
 pub length-passed : (opening : Bool) (rounds : ℕ) (start s : List ℕ) → length (passed opening rounds start s) ≡ length s
 unfolding passed oppPlain oppCipher

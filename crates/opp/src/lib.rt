@@ -12,8 +12,8 @@ ghost use lib.ListN.{length, drop};
 ghost use Rattle.blockplan.specs.Plan.{opened, cipherPart, tagPart};
 ghost use Rattle.opp.specs.Opp.{oppTag, oppCipher, oppPlain};
 
-pub mod message;
-pub mod tag;
+mod message;
+mod tag;
 
 // The parcel to the front of the output: the ciphertext and then the tag.
 pub fn seal(start: [u64; 16], rounds: u32, header: &[u8], message: &[u8], out: &mut [u8])

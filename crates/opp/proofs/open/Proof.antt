@@ -60,11 +60,11 @@ returns c =
     let all : Bytes (now (a .parcel)) = record { bytes = λ i. c .before .before .before .before .before .before .before .before .before .before .before .before .before .shared-slice-known2 .given i .fits } in
     let bytes : Bytes s = bytes-take n (now (a .parcel)) all in
     let pass = c .before .before .before .before .before .before .before .before .before .pass .ensures in
-    let tag = rw (tailPart n (now (a .parcel)), c .before .before .before .before .before .before .tag-block .ensures, pass .1 .0, pass .1 .1, tag-is (a .rounds) (a .start) s block bytes true (now (a .header)))
-    at (c .before .before .before .before .same-tag .ensures) in
+    let tag = tag-is (a .rounds) (a .start) s block bytes true (now (a .header)) _ _ _ (pass .1 .1) (pass .1 .0) (c .before .before .before .before .before .before .tag-block .ensures) in
+    let right = rw (tailPart n (now (a .parcel)), tag) at (c .before .before .before .before .same-tag .ensures) in
     let long : length s ≡ n = length-take-le n (now (a .parcel)) (omega arith) in
     opened-is _ n (oppPlain (a .rounds) (a .start) s) _ (tagPart (now (a .parcel))) (now (a .out)) _ _
-    (length-passed true (a .rounds) (a .start) s ∙ long) tag (rw long at (pass .0)) (c .before .before .keep .ensures)
+    (length-passed true (a .rounds) (a .start) s ∙ long) right (rw long at (pass .0)) (c .before .before .keep .ensures)
 
 pub open-spec : {M : Type 1} → statement M
 open-spec =

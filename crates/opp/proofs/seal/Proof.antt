@@ -42,10 +42,9 @@ returns c =
     let block : Block (a .start) = array-block _ _ (start .good .0) in
     let bytes : Bytes m = record { bytes = λ i. c .before .before .before .before .before .before .before .before .before .before .shared-slice-known2 .given i .fits } in
     let pass = c .before .before .before .before .before .before .before .pass .ensures in
-    let tag = rw (c .before .before .before .before .tag-block .ensures, pass .1 .0, pass .1 .1, tag-is (a .rounds) (a .start) m block bytes false (now (a .header)))
-    at (c .before .before .store-tag .ensures) in
+    let tag = tag-is (a .rounds) (a .start) m block bytes false (now (a .header)) _ _ _ (pass .1 .1) (pass .1 .0) (c .before .before .before .before .tag-block .ensures) in
     behind (length m) 32 (oppCipher (a .rounds) (a .start) m) (oppTag (a .rounds) (a .start) (now (a .header)) m) (now (a .out)) _ _
-    (length-passed false (a .rounds) (a .start) m) (pass .0) tag
+    (length-passed false (a .rounds) (a .start) m) (pass .0) (rw tag at (c .before .before .store-tag .ensures))
 
 pub seal-spec : {M : Type 1} → statement M
 seal-spec =

@@ -1,6 +1,7 @@
 -- The whole blocks, and the leftover where there is one. Assumes nothing.
-use mathlib.Core.Path.{_≡_, _∙_}
+use mathlib.Core.Path.{_≡_}
 use Prim.Native.Nat.{_*_}
+use native.Mathlib.Omega.{arith}
 use lib.ListN.{length}
 use denote.Ref.{now}
 use Rattle.words.specs.Block.{Block, Bytes}
@@ -33,11 +34,11 @@ returns c =
     let block : Block (a .start) = array-block _ _ (start .good .0) in
     let bytes : Bytes s = record { bytes = λ i. c .before .before .before .before .before .before .before .shared-slice-known .given i .fits } in
     let blocks = rw (c .before .before .before .before .before .gamma .ensures) at (c .before .before .before .pass-blocks .ensures) in
-    let e : 128 * whole s ≡ length s = c .if1 .taken in (
-      blocks .0 ∙ whole-written (a .rounds) (a .start) s block bytes (a .opening) e (now (a .out)),
+    let e : 128 * whole s ≡ length s = omega arith in (
+      whole-written (a .rounds) (a .start) s block bytes (a .opening) e (now (a .out)) _ (blocks .0),
       (
-        blocks .1 .0 ∙ whole-check (a .rounds) (a .start) s block bytes (a .opening) e,
-        blocks .1 .1 ∙ whole-mask (a .rounds) (a .start) s block bytes (a .opening) e,
+        whole-check (a .rounds) (a .start) s block bytes (a .opening) e _ (blocks .1 .0),
+        whole-mask (a .rounds) (a .start) s block bytes (a .opening) e _ (blocks .1 .1),
       ),
     )
 
@@ -74,12 +75,12 @@ returns-2 c =
     let block : Block (a .start) = array-block _ _ (start .good .0) in
     let bytes : Bytes s = record { bytes = λ i. c .before .before .before .before .before .before .before .before .before .before .before .before .shared-slice-known .given i .fits } in
     let blocks = rw (c .before .before .before .before .before .before .before .before .before .before .gamma .ensures) at (c .before .before .before .before .before .before .before .before .pass-blocks .ensures) in
-    let q : 128 * whole s ≡ length s → ⊥ = c .before .before .before .before .before .if1 .left in
+    let q : 128 * whole s ≡ length s → ⊥ = λ e. c .before .before .before .before .before .if1 .left (omega arith) in
     let rest = rw (blocks .1 .0, blocks .1 .1, tailPart (128 * whole s) s) at (c .before .before .pass-leftover .ensures) in (
       left-written (a .rounds) (a .start) s block bytes (a .opening) q (now (a .out)) _ _ (blocks .0) (rest .0),
       (
-        rest .1 .0 ∙ left-check (a .rounds) (a .start) s block bytes (a .opening) q,
-        rest .1 .1 ∙ left-mask (a .rounds) (a .start) s block bytes (a .opening) q,
+        left-check (a .rounds) (a .start) s block bytes (a .opening) q _ (rest .1 .0),
+        left-mask (a .rounds) (a .start) s block bytes (a .opening) q _ (rest .1 .1),
       ),
     )
 

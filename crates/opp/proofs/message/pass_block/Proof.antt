@@ -1,3 +1,11 @@
+-- One way or the other. Assumes nothing.
+use mathlib.Core.Path.{ap, _∙_}
+use mathlib.Core.List.{List, _++_}
+use Prim.Native.Nat.{ℕ}
+use lib.ListN.{drop}
+use denote.Ref.{now}
+use Rattle.words.specs.Block.{bytesOf, xorBlock}
+use Rattle.mem.specs.Mem.{under, unUnder}
 use Rattle.opp.specs.Pass.{crossed}
 use borrow.Author.Needs.{needs}
 use Rattle.opp.proofs.message.pass_block.Statement.{statement}
@@ -30,10 +38,13 @@ same-length c = search needs
 returns : tie.Need-returns
 unfolding crossed
 returns c =
-    let given = c .before .before .before .before .before .before .before .load .ensures in
-    let made = c .before .before .before .before .before .decipher .ensures in
-    rw (c .before .before .before .before .before .before .if1 .taken)
-    (rw (c .before .before .before .store .ensures, made, given), rw (c .xor .ensures, made, given))
+    let a = c .before .before .before .before .before .before .before .before .before .before .args in
+    let made = c .before .before .before .before .before .decipher .ensures
+    ∙ ap (unUnder (a .rounds) (a .mask)) (c .before .before .before .before .before .before .before .load .ensures) in
+    rw (c .before .before .before .before .before .before .if1 .taken) (
+      c .before .before .before .store .ensures ∙ ap (λ (b : List ℕ). bytesOf b ++ drop 128 (now (a .out))) made,
+      c .xor .ensures ∙ ap (xorBlock (a .check)) made,
+    )
 
 same-length-2 : tie.Need-same-length-2
 same-length-2 c = search needs
@@ -41,10 +52,13 @@ same-length-2 c = search needs
 returns-2 : tie.Need-returns-2
 unfolding crossed
 returns-2 c =
+    let a = c .before .before .before .before .before .before .before .before .before .before .args in
     let given = c .before .before .before .before .before .before .before .load .ensures in
-    let made = c .before .before .before .before .before .encipher .ensures in
-    rw (c .before .before .before .before .before .before .if1 .left)
-    (rw (c .before .before .before .store2 .ensures, made, given), rw (c .xor2 .ensures, given))
+    let made = c .before .before .before .before .before .encipher .ensures ∙ ap (under (a .rounds) (a .mask)) given in
+    rw (c .before .before .before .before .before .before .if1 .left) (
+      c .before .before .before .store2 .ensures ∙ ap (λ (b : List ℕ). bytesOf b ++ drop 128 (now (a .out))) made,
+      c .xor2 .ensures ∙ ap (xorBlock (a .check)) given,
+    )
 
 pub pass-block-spec : {M : Type 1} → statement M
 pass-block-spec =

@@ -1,12 +1,11 @@
 -- The loop's invariant: i blocks are written, the other bytes are as they were, the check has i blocks, and the mask is i steps on. Assumes nothing.
-use mathlib.Core.Path.{_≡_, refl, _∙_}
+use mathlib.Core.Path.{_≡_, refl}
 use mathlib.Core.List.{_++_}
-use Prim.Native.Nat.{_/_, _*_, _-_, _≤_, _<_}
+use Prim.Native.Nat.{_/_, _*_, _-_, _≤_}
 use native.Mathlib.Omega.{arith}
-use lib.ListN.{length, drop, length-drop}
+use lib.ListN.{length, drop}
 use denote.Ref.{now}
 use Rattle.words.specs.Sequence.{cat, fold, times}
-use Rattle.words.specs.Block.{zeroBlock}
 use Rattle.words.proofs.Lists.{appended, tailPart, timesed}
 use Rattle.masks.specs.Steps.{alpha}
 use Rattle.blockplan.specs.Plan.{whole, blockAt, xorOver}
@@ -76,7 +75,7 @@ loop-again c =
       (
         refl,
         (
-          c .before .before .out .given .1 ∙ at .inv .1 .1 .0,
+          omega (arith, c .before .before .out .given .1),
           (
             appended _ 128 (at .i) _ _ (one .last .1 .1 .1 .1 .1 .0) (length-bytesAt (a .opening) (a .rounds) (a .first) (now (a .s))) (omega arith) (at .inv .1 .1 .1 .0) (here .0),
             (

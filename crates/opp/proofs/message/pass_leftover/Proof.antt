@@ -1,10 +1,12 @@
 -- The leftover's two forms are as long as each other, so the front of the output is what was made. Assumes nothing.
-use mathlib.Core.Path.{sym}
+use mathlib.Core.Path.{sym, ap, ap₂, _∙_}
 use native.Mathlib.Omega.{arith}
-use lib.ListN.{length, length-take}
+use lib.ListN.{length, take, length-take}
 use lib.Seq.{length-take-le, take-at}
 use denote.Ref.{now}
+use Rattle.words.specs.Block.{xorBlock}
 use Rattle.words.proofs.Blocks.{length-xorBytes}
+use Rattle.mem.specs.Mem.{under}
 use borrow.Author.Needs.{needs}
 use Rattle.opp.proofs.message.pass_leftover.Statement.{statement}
 use Rattle.opp.proofs.message.pass_leftover.Tie as tie
@@ -41,14 +43,12 @@ returns c =
     let a = c .before .before .before .before .before .before .before .before .before .before .before .before .before .before .args in
     let s = now (a .s) in
     let mask = c .before .before .before .before .before .before .before .before .before .before .beta .ensures in
-    let put = rw (c .before .before .before .before .before .before .before .before .encipher .ensures, mask, c .before .before .before .before .before .before .before .before .before .zero .ensures)
-    at (c .before .before .before .before .before .before .xor-leftover .ensures) in (
-      put,
-      (
-        rw (c .xor .ensures, c .before .before .padded-plain .ensures, put, take-at _ _ (length s) (length-xorBytes s _)),
-        mask,
-      ),
-    )
+    let stream = c .before .before .before .before .before .before .before .before .encipher .ensures
+    ∙ ap₂ (under (a .rounds)) mask (c .before .before .before .before .before .before .before .before .before .zero .ensures) in
+    let put = rw stream at (c .before .before .before .before .before .before .xor-leftover .ensures) in
+    let front = ap (take (length s)) put ∙ take-at _ _ (length s) (length-xorBytes s _) in
+    let last = rw front at (c .before .before .padded-plain .ensures) in
+    (put, (c .xor .ensures ∙ ap (xorBlock (a .blocks .check)) last, mask))
 
 pub pass-leftover-spec : {M : Type 1} → statement M
 pass-leftover-spec =

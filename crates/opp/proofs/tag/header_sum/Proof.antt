@@ -1,7 +1,13 @@
 -- With a leftover and without. Assumes nothing.
-use mathlib.Core.Path.{sym, _∙_}
+use mathlib.Core.Path.{_≡_, sym, ap, ap₂, _∙_}
+use Prim.Native.Nat.{_*_}
+use native.Mathlib.Omega.{arith}
+use lib.ListN.{length}
 use denote.Ref.{now}
+use Rattle.words.specs.Block.{xorBlock}
 use Rattle.words.proofs.Lists.{tailPart}
+use Rattle.masks.specs.Steps.{beta}
+use Rattle.mem.specs.Mem.{under}
 use Rattle.blockplan.specs.Plan.{whole, left}
 use Rattle.opp.specs.Opp.{padded}
 use Rattle.opp.proofs.Sums.{sum-none, sum-some}
@@ -19,7 +25,9 @@ returns : tie.Need-returns
 unfolding whole
 returns c =
     let a = c .before .before .before .before .args in
-    c .before .before .absorb .ensures .0 ∙ sym (sum-none (a .rounds) (a .start) (now (a .header)) (c .if1 .taken))
+    let h = now (a .header) in
+    let e : 128 * whole h ≡ length h = omega arith in
+    c .before .before .absorb .ensures .0 ∙ sym (sum-none (a .rounds) (a .start) h e)
 
 sub-padded : tie.Need-sub-padded
 sub-padded c = search needs
@@ -45,10 +53,13 @@ xor-requires c κs = search needs
 returns-2 : tie.Need-returns-2
 unfolding whole left padded
 returns-2 c =
-    let whole-blocks = c .before .before .before .before .before .before .before .before .absorb .ensures in
+    let blocks = c .before .before .before .before .before .before .before .before .absorb .ensures in
     let a = c .before .before .before .before .before .before .before .before .before .before .args in
-    rw (c .xor .ensures, c .before .encipher .ensures, c .before .before .beta .ensures, c .before .before .before .padded .ensures, whole-blocks .0, whole-blocks .1, tailPart)
-    (sym (sum-some (a .rounds) (a .start) (now (a .header)) (c .before .before .before .before .before .before .if1 .left)))
+    let h = now (a .header) in
+    let q : 128 * whole h ≡ length h → ⊥ = λ e. c .before .before .before .before .before .before .if1 .left (omega arith) in
+    let mask = c .before .before .beta .ensures ∙ ap beta (blocks .1) in
+    let block = c .before .before .before .padded .ensures ∙ ap padded (tailPart (128 * whole h) h) in
+    c .xor .ensures ∙ ap₂ xorBlock (blocks .0) (c .before .encipher .ensures ∙ ap₂ (under (a .rounds)) mask block) ∙ sym (sum-some (a .rounds) (a .start) h q)
 
 pub header-sum-spec : {M : Type 1} → statement M
 header-sum-spec =
