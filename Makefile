@@ -17,7 +17,7 @@ dist:
 
 demo: dist
 	@tools/need.sh cargo cargo
-	@cd rust && cargo build --offline --release --quiet --package cli
+	@cd rust && cargo build --offline --release --quiet --package calmbaize-cli
 	@tools/demo.sh rust/target/release/calmbaize
 
 test: tools
@@ -26,7 +26,7 @@ test: tools
 bench: dist
 	@tools/need.sh cargo cargo
 	@tools/need.sh pkg:libsodium-dev libsodium-dev
-	@cd rust && cargo run --offline --release --quiet --package bench
+	@cd rust && cargo run --offline --release --quiet --package bench -- --docs ../docs
 
 # Every outside check seen to fail on a library with a fault in it.
 planted: tools

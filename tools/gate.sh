@@ -47,7 +47,7 @@ archive() {
 }
 
 cargo_in_rust() {
-    (cd rust && cargo "$@" --offline --release --quiet)
+    (cd rust && cargo "$1" --offline --release --quiet "${@:2}")
 }
 
 part "proofs, must-fail edits and programs" prove

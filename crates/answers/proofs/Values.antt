@@ -2,8 +2,9 @@
 use mathlib.Core.Path.{_≡_, refl}
 use mathlib.Core.Bool.{Bool, true, false}
 use mathlib.Core.List.{List}
-use Prim.Native.Nat.{ℕ, _<_}
-use Rattle.answers.specs.Answers.{valueOf, refuse}
+use Prim.Native.Nat.{ℕ, _/_, _%_, _^_, _<_}
+use lib.Arith.{digits-div, digits-mod}
+use Rattle.answers.specs.Answers.{numberOf, valueOf, codeOf, refuse}
 use Rattle.answers.specs.declared.Answer.{Answer}
 
 pub refuse-lt : (n : ℕ) (t : Bool) (a : Answer) (out : List ℕ) (next : Answer × List ℕ) → valueOf a < n → (t ≡ false → valueOf (next .0) < n)
@@ -11,3 +12,8 @@ pub refuse-lt : (n : ℕ) (t : Bool) (a : Answer) (out : List ℕ) (next : Answe
 unfolding refuse
 refuse-lt n true a out next h g = h
 refuse-lt n false a out next h g = g refl
+
+-- an answer's number and value, taken apart again
+pub taken-apart : (a : Answer) → valueOf a < 2 ^ 32 → (codeOf a / 2 ^ 32 ≡ numberOf a) × (codeOf a % 2 ^ 32 ≡ valueOf a)
+unfolding codeOf
+taken-apart a h = (digits-div (numberOf a) h, digits-mod (numberOf a) h)

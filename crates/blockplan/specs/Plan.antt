@@ -4,10 +4,8 @@ use mathlib.Core.List.{List, [], _∷_, _++_}
 use Prim.Native.Nat.{ℕ, _-_, _*_, _/_}
 use lib.Dec.{ltb, eqb}
 use lib.ListN.{length, take, drop}
-use Rattle.words.specs.Sequence.{cat, fold, times, zeros}
+use Rattle.words.specs.Sequence.{cat, fold, zeros}
 use Rattle.words.specs.Block.{blockOf, bytesOf, xorBlock, xorBytes, zeroBlock}
-use Rattle.masks.specs.Steps.{alpha}
-use Rattle.mem.specs.Mem.{under}
 
 -- the number of whole blocks
 unfoldable pub whole : List ℕ → ℕ
@@ -28,10 +26,6 @@ blockAt s i = blockOf (drop (128 * i) s)
 -- the xor of the blocks f 0 to f (n - 1); of no blocks it is the zero block
 unfoldable pub xorOver : (ℕ → List ℕ) → ℕ → List ℕ
 xorOver f n = fold (λ i sum. xorBlock sum (f i)) zeroBlock n
-
--- block i of s under a mask that is i alpha steps on from the first
-unfoldable pub stepped : ℕ → List ℕ → List ℕ → ℕ → List ℕ
-stepped rounds first s i = under rounds (times alpha i first) (blockAt s i)
 
 -- a block more where there is one
 unfoldable pub xorIf : Bool → List ℕ → List ℕ → List ℕ

@@ -7,7 +7,8 @@ use words::block::zero;
 ghost use mathlib.Core.Path.{_≡_};
 ghost use Rattle.words.specs.Sequence.{times};
 ghost use Rattle.masks.specs.Steps.{alpha as alphaOf};
-ghost use Rattle.blockplan.specs.Plan.{whole, stepped, xorOver};
+ghost use Rattle.blockplan.specs.Plan.{whole, xorOver};
+ghost use Rattle.blockplan.specs.Stepped.{stepped};
 
 // The sum so far, and the mask of the next block.
 pub struct Absorbed {

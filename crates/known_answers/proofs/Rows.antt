@@ -9,7 +9,7 @@ use Rattle.words.specs.Sequence.{tab}
 use Rattle.words.specs.Word.{addW, rotR, rotL, shl}
 use Rattle.words.specs.Block.{zeroBlock, xorAt, xorBlock}
 use Rattle.permutation.specs.Permutation.{gOf, half, pick, put, stepAt, gAt, over, groups, round}
-use Rattle.masks.specs.Steps.{alphaW, alpha, beta}
+use Rattle.masks.specs.Steps.{alphaW, alpha, beta, gamma}
 use Rattle.masks.specs.BackSteps.{unAlpha}
 use Rattle.blockplan.specs.Plan.{same}
 use Rattle.blockplan.proofs.Plans.{same-true}
@@ -27,7 +27,7 @@ holds (r ∷ rows) e zero h = same-true (r .got) (r .want) (both (same (r .got) 
 holds (r ∷ rows) e (suc i) h = holds rows (both (same (r .got) (r .want)) (right rows) e .1) i (omega arith)
 
 computed : right table ≡ true
-unfolding right table same word g zeroBlock tab gOf half addW rotR rotL shl round over groups gAt stepAt pick put alpha alphaW beta xorBlock xorAt unAlpha
+unfolding right table same word g zeroBlock tab gOf half addW rotR rotL shl round over groups gAt stepAt pick put alpha alphaW beta gamma xorBlock xorAt unAlpha
 computed = refl
 
 pub known-answers : Holds table

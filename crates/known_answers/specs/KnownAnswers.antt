@@ -6,7 +6,7 @@ use Prim.Native.Nat.{ℕ, _<_}
 use lib.ListN.{length, getD, set}
 use Rattle.words.specs.Block.{zeroBlock}
 use Rattle.permutation.specs.Permutation.{Quad, gOf, round}
-use Rattle.masks.specs.Steps.{alpha, beta}
+use Rattle.masks.specs.Steps.{alpha, beta, gamma}
 use Rattle.masks.specs.BackSteps.{unAlpha}
 use Rattle.blockplan.specs.Plan.{same}
 
@@ -35,6 +35,7 @@ table =
     ∷ record { got = alpha (word 5 0x0008000000000000); want = word 4 0x0008000000000000 }  -- P6
     ∷ record { got = beta (word 0 1); want = set (word 0 1) 15 0x0020000000000000 }  -- P7
     ∷ record { got = unAlpha (word 15 1); want = word 0 0x800 }  -- P8
+    ∷ record { got = gamma (word 0 1); want = set (set (word 0 1) 14 0x0020000000000000) 15 0x0020000000000000 }  -- maskwalk's example
     ∷ []
 
 -- the test that is computed over the whole table

@@ -6,7 +6,7 @@ use Prim.Native.Nat.{ℕ}
 use Rattle.words.specs.Block.{Block, xorBlock, zeroBlock}
 use Rattle.words.proofs.Blocks.{xor-block, zero-block, xorBlock-self, xorBlock-swap}
 use Rattle.masks.specs.Steps.{alpha, beta, gamma, OnlyBlock, Step}
-use Rattle.masks.specs.BackSteps.{unAlpha, unBeta, unGamma}
+use Rattle.masks.specs.BackSteps.{unAlpha, unBeta, unGamma, BackSteps}
 use Rattle.masks.proofs.Runs.{alpha-block, alpha-linear, beta-block, gamma-block, unAlpha-block, alpha-undo, alpha-redo}
 use Rattle.masks.proofs.Undoing.{unBeta-block, beta-undo, beta-redo, unGamma-block, gamma-undo, gamma-redo}
 
@@ -77,9 +77,12 @@ pub zero-only : (f g : List ℕ → List ℕ) → Step f g → (s : List ℕ) �
 zero-only f g step s h e = sym (step .undo s h) ∙ ap g e ∙ zero-fixed g f (back-step f g step)
 
 -- each back step's value is the only block whose forward step gives the block at hand
-pub back-steps : (s : List ℕ) → Block s → OnlyBlock alpha s (unAlpha s) × (OnlyBlock beta s (unBeta s) × OnlyBlock gamma s (unGamma s))
-back-steps s h =
-    (only-back alpha unAlpha alpha-step s h, (only-back beta unBeta beta-step s h, only-back gamma unGamma gamma-step s h))
+pub back-steps : BackSteps
+back-steps = record {
+  alpha-only = only-back alpha unAlpha alpha-step;
+  beta-only = only-back beta unBeta beta-step;
+  gamma-only = only-back gamma unGamma gamma-step;
+}
 
 -- ---- steps commute
 

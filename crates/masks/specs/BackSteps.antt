@@ -6,6 +6,8 @@ use Prim.Native.Nat.{ℕ, zero, suc, _+_, _*_, _/_, _%_, _^_}
 use lib.ListN.{getD, take}
 use lib.Bits.{bitXor}
 use Rattle.words.specs.Sequence.{tab}
+use Rattle.words.specs.Block.{Block}
+use Rattle.masks.specs.Steps.{alpha, beta, gamma, OnlyBlock}
 use Rattle.words.specs.Word.{rotR, shl}
 use Rattle.masks.specs.Tables.{betaTable, gammaTable}
 
@@ -56,3 +58,9 @@ unGamma b =
     tab
     (gammaRun b (gammaWord gammaTable 0 (gammaSide b 0) (gammaSide b 1)) (gammaWord gammaTable 1 (gammaSide b 0) (gammaSide b 1)))
     16
+
+-- each has a back step: its value is the only block whose forward step gives the block at hand; proved as back-steps in proofs/Laws
+pub record BackSteps : Type 0 where
+  pub alpha-only : (s : List ℕ) → Block s → OnlyBlock alpha s (unAlpha s)
+  pub beta-only : (s : List ℕ) → Block s → OnlyBlock beta s (unBeta s)
+  pub gamma-only : (s : List ℕ) → Block s → OnlyBlock gamma s (unGamma s)

@@ -3,7 +3,9 @@
 use libc::STDERR_FILENO;
 use libc::STDIN_FILENO;
 use libc::STDOUT_FILENO;
+use maskwalk_text::HELD;
 use maskwalk_text::Scan;
+use maskwalk_text::TEXT;
 use maskwalk_text::feed;
 use maskwalk_text::finish;
 use maskwalk_text::first;
@@ -20,7 +22,7 @@ enum Turn {
 }
 
 // Reads once, and feeds what came to the scan.
-fn read_some(s: Scan, held: &mut [u8; 4224]) -> Turn {
+fn read_some(s: Scan, held: &mut [u8; HELD]) -> Turn {
     let mut part = io::large_buffer();
     let got = libc::read(STDIN_FILENO, &mut part);
     if got < 0 {
@@ -40,7 +42,7 @@ fn read_some(s: Scan, held: &mut [u8; 4224]) -> Turn {
 
 // A proved loop has to end, and nothing says that the input does. So the loop counts its turns
 // down; each reads a byte or more, and no input has 2^64 of them.
-fn read_all(held: &mut [u8; 4224]) -> Turn {
+fn read_all(held: &mut [u8; HELD]) -> Turn {
     let mut turns = u64::MAX;
     let mut s = first();
     while turns > 0 {
@@ -63,13 +65,13 @@ fn read_all(held: &mut [u8; 4224]) -> Turn {
 
 // Prints the text. Where the input cannot be read to its end, nothing goes to standard output.
 fn main() {
-    let mut held = [0u8; 4224];
+    let mut held = [0u8; HELD];
     let turn = read_all(&mut held);
     let Turn::Done(s) = turn else {
         io::write_all(STDERR_FILENO, b"maskwalk: the input cannot be read\n");
         return;
     };
-    let mut out = [0u8; 320];
+    let mut out = [0u8; TEXT];
     let n = finish(s, &held, &mut out);
     io::write_all(STDOUT_FILENO, &out[..n]);
 }

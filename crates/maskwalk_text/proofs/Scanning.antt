@@ -1,6 +1,6 @@
 -- A scan of the input byte by byte ends with the text of the whole input. Assumes nothing.
 use mathlib.Core.Path.{_≡_, refl, sym, ap, ap₂, _∙_}
-use mathlib.Core.Bool.{Bool, true, false, cond, not}
+use mathlib.Core.Bool.{Bool, true, false, cond, not, true≢false}
 use mathlib.Core.List.{List, [], _∷_, _++_, map, append-assoc, append-nil}
 use Prim.Native.Nat.{ℕ, suc, _+_, _-_, _≤_, _<_}
 use native.Mathlib.Nat.{zero-add}
@@ -14,7 +14,7 @@ use Rattle.walking.specs.Walking.{walked}
 use Rattle.maskwalk_text.specs.declared.Scan.{Scan}
 use Rattle.maskwalk_text.specs.declared.Scan.the-variants.{Reading, Ended, Wrong}
 use Rattle.maskwalk_text.specs.Text.{upToFeed, start, letters, stepOf, allLetters, lines, letter, long, textOf}
-use Rattle.maskwalk_text.specs.Scan.{keptAt, readByte, takeByte, fed, counted, report}
+use Rattle.maskwalk_text.specs.Scan.{isOpen, keptAt, readByte, takeByte, fed, counted, report}
 
 -- a test that holds or not
 byTest : {A : Type 0} (t : Bool) → (t ≡ true → A) → (t ≡ false → A) → A
@@ -38,15 +38,16 @@ fed-append [] ys s held = refl
 fed-append (b ∷ xs) ys s held = fed-append xs ys (takeByte s b held .0) (takeByte s b held .1)
 
 -- nothing changes after the line feed or a wrong byte
-pub fed-ended : (bs : List ℕ) (n : ℕ) (held : List ℕ) → fed bs (Ended n) held ≡ (Ended n, held)
-unfolding fed takeByte
-fed-ended [] n held = refl
-fed-ended (b ∷ bs) n held = fed-ended bs n held
+stays : (s : Scan) (b : ℕ) (held : List ℕ) → isOpen s ≡ false → (s, held) ≡ takeByte s b held
+unfolding takeByte
+stays (Reading n) b held e = absurd (true≢false e)
+stays (Ended n) b held e = refl
+stays Wrong b held e = refl
 
-pub fed-wrong : (bs held : List ℕ) → fed bs Wrong held ≡ (Wrong, held)
-unfolding fed takeByte
-fed-wrong [] held = refl
-fed-wrong (b ∷ bs) held = fed-wrong bs held
+pub fed-shut : (bs : List ℕ) (s : Scan) (held : List ℕ) → isOpen s ≡ false → fed bs s held ≡ (s, held)
+unfolding fed
+fed-shut [] s held e = refl
+fed-shut (b ∷ bs) s held e = fed-one b bs s s held held (stays s b held e) ∙ fed-shut bs s held e
 
 -- ---- one byte
 
@@ -55,6 +56,7 @@ kept : (p rest : List ℕ) (n y v : ℕ) → length p ≡ n → set (p ++ (y ∷
 kept p rest n y v e = set-at p y rest v n e ∙ sym (append-snoc p v rest)
 
 module _ (n b : ℕ) (held : List ℕ) where
+  -- what a byte does, test by test
   read-start : n < 128 → (Reading (n + 1), set held n b) ≡ takeByte (Reading n) b held
   unfolding takeByte readByte keptAt
   read-start h = rw (lt-ltb n 128 h)
@@ -107,9 +109,9 @@ after-start : (n b : ℕ) (bs held : List ℕ) (text : List ℕ → List ℕ) �
 unfolding report upToFeed allLetters
 after-start n b bs held text h end wrong more =
     byTest (eqb b 10)
-    (λ f. ap reportOf (fed-one b bs (Reading n) (Ended n) held held (read-feed n b held h f) ∙ fed-ended bs n held) ∙ rw f end)
+    (λ f. ap reportOf (fed-one b bs (Reading n) (Ended n) held held (read-feed n b held h f) ∙ fed-shut bs (Ended n) held refl) ∙ rw f end)
     (λ f. byTest (eqb (stepOf b) 0)
-    (λ w. ap reportOf (fed-one b bs (Reading n) Wrong held held (read-wrong n b held h f w) ∙ fed-wrong bs held) ∙ rw f (wrong (b ∷ upToFeed bs) (rw w)))
+    (λ w. ap reportOf (fed-one b bs (Reading n) Wrong held held (read-wrong n b held h f w) ∙ fed-shut bs Wrong held refl) ∙ rw f (wrong (b ∷ upToFeed bs) (rw w)))
     (λ w. rw f (more f w)))
 
 -- too many letters: the text is "long", unless a wrong byte comes before the line feed

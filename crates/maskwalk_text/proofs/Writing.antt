@@ -22,16 +22,16 @@ pub digit-in : (base rest i j v : ℕ) (out : List ℕ) → i ≡ suc j → j < 
 unfolding digits
 digit-in base rest i j v out e h q = rw (e, drop-set j v out h, q, append-assoc)
 
--- one byte more of a text
-pub byte-in : (text old out : List ℕ) (i : ℕ) → i < length text → length text ≤ length old → out ≡ take i text ++ drop i old
-    → set out i (getD text i 0) ≡ take (i + 1) text ++ drop (i + 1) old
-byte-in text old out i h p e =
-    rw (e, drop-cons old i 0 (omega arith), add-one, take-suc text i 0 h, set-at (take i text) (getD old i 0) (drop (suc i) old) (getD text i 0) i (length-take-le i text (omega arith)), append-snoc)
-
 -- a byte after a front
 pub put-after : (p old xs : List ℕ) (n v : ℕ) → length p ≡ n → n < length old → xs ≡ p ++ drop n old
     → set xs n v ≡ p ++ (v ∷ []) ++ drop (suc n) old
 put-after p old xs n v e h q = rw (q, drop-cons old n 0 h, set-at p (getD old n 0) (drop (suc n) old) v n e, append-snoc)
+
+-- one byte more of a text
+pub byte-in : (text old out : List ℕ) (i : ℕ) → i < length text → length text ≤ length old → out ≡ take i text ++ drop i old
+    → set out i (getD text i 0) ≡ take (i + 1) text ++ drop (i + 1) old
+byte-in text old out i h p e =
+    put-after (take i text) old out i (getD text i 0) (length-take-le i text (omega arith)) (omega arith) e ∙ rw (add-one, take-suc text i 0 h)
 
 -- a part after a front that came back with a new front of its own
 pub part-after : (p q old xs ys : List ℕ) (n m : ℕ) → length p ≡ n → xs ≡ p ++ drop n old

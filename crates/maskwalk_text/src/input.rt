@@ -1,4 +1,7 @@
 // One byte of the input.
+use crate::HELD;
+use crate::OVER;
+use crate::START;
 use crate::Scan;
 ghost use mathlib.Core.Path.{_≡_};
 ghost use Prim.Native.Nat.{_<_};
@@ -21,7 +24,7 @@ fn step_of(letter: u8) -> u8
 }
 
 // A byte to place n.
-fn keep(n: usize, b: u8, held: &mut [u8; 4224]) -> Scan
+fn keep(n: usize, b: u8, held: &mut [u8; HELD]) -> Scan
     requires { ⌜ n < 4224 ⌝ }
     ensures { λ r. ⌜ (r, now (held .exit)) ≡ keptAt n b (now (held .entry)) ⌝ }
 {
@@ -30,10 +33,10 @@ fn keep(n: usize, b: u8, held: &mut [u8; 4224]) -> Scan
 }
 
 // A byte after n of them: of the start, or a letter.
-fn read_byte(n: usize, b: u8, held: &mut [u8; 4224]) -> Scan
+fn read_byte(n: usize, b: u8, held: &mut [u8; HELD]) -> Scan
     ensures { λ r. ⌜ (r, now (held .exit)) ≡ readByte n b (now (held .entry)) ⌝ }
 {
-    if n < 128 {
+    if n < START {
         return keep(n, b, held);
     }
     if b == b'\n' {
@@ -43,14 +46,14 @@ fn read_byte(n: usize, b: u8, held: &mut [u8; 4224]) -> Scan
     if step == 0 {
         return Scan::Wrong;
     }
-    if n < 4224 {
+    if n < HELD {
         return keep(n, step, held);
     }
-    Scan::Reading(4225)
+    Scan::Reading(OVER)
 }
 
 // A byte; after the line feed or a wrong byte nothing changes.
-pub fn take_byte(s: Scan, b: u8, held: &mut [u8; 4224]) -> Scan
+pub fn take_byte(s: Scan, b: u8, held: &mut [u8; HELD]) -> Scan
     ensures { λ r. ⌜ (r, now (held .exit)) ≡ takeByte s b (now (held .entry)) ⌝ }
 {
     match s {

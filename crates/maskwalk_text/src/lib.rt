@@ -12,6 +12,15 @@ ghost use Prim.Native.Nat.{_≤_};
 ghost use lib.ListN.{length};
 ghost use Rattle.maskwalk_text.specs.Scan.{isOpen, fed, counted, report, written};
 
+// The bytes of the start.
+pub const START: usize = 128;
+// Room for the start, and for a step byte for each of 4,096 letters.
+pub const HELD: usize = 4224;
+// What is counted where there are more letters than that.
+pub const OVER: usize = 4225;
+// The bytes of a printed block: sixteen lines of twenty.
+pub const TEXT: usize = 320;
+
 // How far the input has been read.
 pub enum Scan {
     // So many bytes of the start and the letters; of letters too many one is counted.
@@ -41,7 +50,7 @@ pub fn is_open(s: Scan) -> bool
 }
 
 // The next part of the input, byte by byte.
-pub fn feed(s: Scan, part: &[u8], held: &mut [u8; 4224]) -> Scan
+pub fn feed(s: Scan, part: &[u8], held: &mut [u8; HELD]) -> Scan
     ensures { λ r. ⌜ (r, now (held .exit)) ≡ fed (now (part .entry)) s (now (held .entry)) ⌝ }
 {
     let mut at = s;
@@ -59,19 +68,19 @@ fn count_text(n: usize, held: &[u8], out: &mut [u8]) -> usize
     requires { ⌜ (4224 ≤ length (now held)) × (320 ≤ length (now out)) ⌝ }
     ensures { λ r. ⌜ (r, now (out .exit)) ≡ written (counted n (now (held .entry))) (now (out .entry)) ⌝ }
 {
-    if n < 128 {
+    if n < START {
         return put(b"short\n", out);
     }
-    if n > 4224 {
+    if n > HELD {
         return put(b"long\n", out);
     }
-    let b = take_all(load(&held[..128]), &held[128..n]);
+    let b = take_all(load(&held[..START]), &held[START..n]);
     write_lines(b, out);
-    320
+    TEXT
 }
 
 // The text at the end of the input, and its length; output beyond it is unchanged.
-pub fn finish(s: Scan, held: &[u8; 4224], out: &mut [u8; 320]) -> usize
+pub fn finish(s: Scan, held: &[u8; HELD], out: &mut [u8; TEXT]) -> usize
     ensures { λ r. ⌜ (r, now (out .exit)) ≡ written (report s (now (held .entry))) (now (out .entry)) ⌝ }
 {
     match s {

@@ -98,7 +98,7 @@ start-block rounds key nonce hk hn =
     perm-block rounds (startBlock key nonce) (record {
       long = simp (length-append, length-tab);
       words = below-append (2 ^ 64) (tab (wordAt nonce) 2) (tab (λ i. 0) 10 ++ tab (wordAt key) 4)
-        (below-tab (wordAt nonce) 2 (2 ^ 64) (lit< tt) (λ i p. word-lt nonce hn i (omega arith)))
-        (below-append (2 ^ 64) (tab (λ i. 0) 10) (tab (wordAt key) 4) (below-tab (λ i. 0) 10 (2 ^ 64) (lit< tt) (λ i p. lit< tt))
-        (below-tab (wordAt key) 4 (2 ^ 64) (lit< tt) (λ i p. word-lt key hk i (omega arith))))
+          (below-tab (wordAt nonce) 2 (2 ^ 64) (lit< tt) (λ i p. word-lt nonce hn i (omega arith)))
+          (below-append (2 ^ 64) (tab (λ i. 0) 10) (tab (wordAt key) 4) (below-tab (λ i. 0) 10 (2 ^ 64) (lit< tt) (λ i p. lit< tt))
+          (below-tab (wordAt key) 4 (2 ^ 64) (lit< tt) (λ i p. word-lt key hk i (omega arith))));
     })

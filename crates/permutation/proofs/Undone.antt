@@ -4,7 +4,7 @@ use mathlib.Core.List.{List, [], _∷_}
 use Prim.Native.Nat.{ℕ}
 use Rattle.words.specs.Block.{Block}
 use Rattle.permutation.specs.Permutation.{gAt, unGAt, over, unOver, groups, round, unRound, perm, unPerm}
-use Rattle.permutation.specs.Undo.{Undo}
+use Rattle.permutation.specs.Undo.{Undo, BackUndoes}
 use Rattle.permutation.proofs.Maps.{undo-same, undo-then, undo-times}
 use Rattle.permutation.proofs.Lines.{g-undo}
 use Rattle.permutation.proofs.Places.{Row, undo-at}
@@ -44,3 +44,6 @@ unPerm-perm n = perm-undo n .back-forth
 
 pub perm-unPerm : (n : ℕ) (s : List ℕ) → Block s → perm n (unPerm n s) ≡ s
 perm-unPerm n = perm-undo n .forth-back
+
+pub back-undoes : BackUndoes
+back-undoes = record { undone = perm-undo }

@@ -5,7 +5,7 @@ ghost use mathlib.Core.Path.{_≡_};
 ghost use mathlib.Core.List.{[]};
 ghost use Prim.Native.Nat.{_<_};
 ghost use lib.ListN.{getD};
-ghost use Rattle.permutation.specs.Permutation.{groups, gAt, unGAt, round, unRound};
+ghost use Rattle.permutation.specs.Permutation.{groups, gAt, unGAt, round as roundOf, unRound};
 
 // The eight groups of word numbers: four columns, four diagonals.
 const GROUPS: [[usize; 4]; 8] = [
@@ -39,7 +39,7 @@ fn unstep(s: [u64; 16], k: usize) -> [u64; 16]
 
 // A round: the table read forward. Eight calls, since a loop over the table is not unrolled.
 pub fn round(s: [u64; 16]) -> [u64; 16]
-    ensures { λ r. ⌜ r ≡ round s ⌝ }
+    ensures { λ r. ⌜ r ≡ roundOf s ⌝ }
 {
     let s0 = step(s, 0);
     let s1 = step(s0, 1);

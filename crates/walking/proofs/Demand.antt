@@ -161,10 +161,15 @@ module _ (kind : ℕ) (s : List ℕ) (p : 1 ≤ kind) (q : kind ≤ 3) (a : Star
       ∙ ap blockOf (sym (mask-step kind t p (omega arith) b) ∙ e)))
       ∙ sym before-is
 
+only-seven : (start steps out : List ℕ) → Start start → Steps steps
+    → walkCall start steps out ≡ refuse (ltb (length out) 128) OutputLength out (Done 128, mask start steps ++ drop 128 out)
+only-seven start steps out a l = walk-answers start steps out a l ∙ rw (mask-is start steps a l)
+
 pub demand3 : Demand3
 demand3 = record {
   walk-is-jump = walk-is-jump;
-  only-seven = λ start steps out a l. walk-answers start steps out a l ∙ rw (mask-is start steps a l);
+  only-seven = only-seven;
+  jump-only-seven = λ start steps out a l. sym (walk-is-jump start steps out a l) ∙ only-seven start steps out a l;
   same-nets = λ start l m out a h g p q r. walk-is-jump start l out a h ∙ rw (p, q, r) (sym (walk-is-jump start m out a g));
   home = home;
   linear = linear;

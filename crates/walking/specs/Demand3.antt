@@ -43,6 +43,10 @@ pub record Demand3 : Type 0 where
   -- it can be refused with 7 alone, and then changes no byte; else it writes the mask and leaves the rest
   pub only-seven : (start steps out : List ℕ) → Start start → Steps steps
       → walkCall start steps out ≡ refuse (ltb (length out) 128) OutputLength out (Done 128, mask start steps ++ drop 128 out)
+  -- and so can the jump by the list's net counts
+  pub jump-only-seven : (start steps out : List ℕ) → Start start → Steps steps
+      → jumpCall start (net 1 steps) (net 2 steps) (net 3 steps) out
+      ≡ refuse (ltb (length out) 128) OutputLength out (Done 128, mask start steps ++ drop 128 out)
   -- so two lists with the same net counts end alike
   pub same-nets : (start l m out : List ℕ) → Start start → Steps l → Steps m
       → net 1 l ≡ net 1 m → net 2 l ≡ net 2 m → net 3 l ≡ net 3 m → walkCall start l out ≡ walkCall start m out

@@ -2,7 +2,7 @@
 use crate::steps::take_many;
 ghost use mathlib.Core.Path.{_≡_};
 ghost use mathlib.Core.Bool.{_&&_};
-ghost use Prim.Native.Nat.{_+_, _≤_, _<_};
+ghost use Prim.Native.Nat.{_+_, _≤_};
 ghost use lib.IntN.{natAbs};
 ghost use Rattle.walking.specs.Walking.{step, taken, inRange};
 
@@ -38,7 +38,7 @@ pub fn all_in_range(a: i32, b: i32, c: i32) -> bool
 
 // That many steps of a kind from 1 to 3, its back steps where the count is negative.
 pub fn travel(start: [u64; 16], kind: u8, z: i32) -> [u64; 16]
-    requires { ⌜ kind < 4 ⌝ }
+    requires { ⌜ (1 ≤ kind) × (kind ≤ 3) ⌝ }
     ensures { λ r. ⌜ r ≡ taken (step kind) (step (kind + 3)) z start ⌝ }
 {
     if z < 0 {

@@ -11,7 +11,8 @@ use Rattle.blockplan.proofs.Plans.{summed, whole-is}
 use Rattle.words.specs.Block.{xorBlock, zeroBlock}
 use Rattle.words.proofs.Lists.{tailPart, nextPart, folded, timesed}
 use Rattle.masks.specs.Steps.{alpha}
-use Rattle.blockplan.specs.Plan.{whole, blockAt, stepped, xorOver}
+use Rattle.blockplan.specs.Plan.{whole, blockAt, xorOver}
+use Rattle.blockplan.specs.Stepped.{stepped}
 use borrow.Author.Needs.{needs}
 use Rattle.blockplan.proofs.absorb.absorb.Statement.{statement}
 use Rattle.blockplan.proofs.absorb.absorb.Tie as tie

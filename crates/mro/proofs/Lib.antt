@@ -1,0 +1,5 @@
+pub mod Parts
+pub mod Absorbed
+pub mod Tags
+pub mod Streams
+pub mod Opened

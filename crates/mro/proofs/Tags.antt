@@ -1,0 +1,55 @@
+-- Laws of the tag's bytes and of the four words that they stand for. Assumes nothing.
+use mathlib.Core.Path.{_≡_, sym, ap, _∙_, subst}
+use mathlib.Core.List.{List, [], _∷_, _++_, append-nil}
+use Prim.Native.Nat.{ℕ, _*_, _<_}
+use native.Mathlib.Omega.{arith}
+use lib.Dec.{lit<}
+use lib.ListN.{length, getD, take, drop, length-take, length-drop, List·getD-append}
+use lib.Seq.{take-all}
+use Rattle.words.specs.Sequence.{tab, cat, zeros}
+use Rattle.words.specs.Block.{Block, Bytes, le, lowBytes, wordAt, wordBytes, bytesOf}
+use Rattle.words.proofs.Lists.{length-tab, getD-tab, length-cat, cat-ext, piece, pieces, take-cat}
+use Rattle.words.proofs.Blocks.{length-wordBytes, le-lowBytes, lowBytes-le, bytes-take, bytes-drop, bytes-bytesOf}
+use Rattle.blockplan.specs.Plan.{tagBytes}
+use Rattle.mro.specs.Mro.{counter}
+
+-- the bytes of the first four words
+pub tag-is : (b : List ℕ) → tagBytes b ≡ cat (wordBytes b) 4
+unfolding tagBytes bytesOf
+tag-is b = take-cat (wordBytes b) 8 16 4 (length-wordBytes b) (omega arith)
+
+pub length-tag : (b : List ℕ) → length (tagBytes b) ≡ 32
+length-tag b = ap length (tag-is b) ∙ length-cat (wordBytes b) 8 4 (length-wordBytes b)
+
+pub bytes-tag : (b : List ℕ) → Bytes (tagBytes b)
+unfolding tagBytes
+bytes-tag b = bytes-take 32 (bytesOf b) (bytes-bytesOf b)
+
+-- a block's first four words come back from its tag
+pub word-tag : (b : List ℕ) → Block b → (i : ℕ) → i < 4 → wordAt (tagBytes b) i ≡ getD b i 0
+unfolding wordAt wordBytes
+word-tag b h i p =
+    ap (λ (l : List ℕ). le (take 8 (drop (8 * i) l))) (tag-is b ∙ sym (append-nil (cat (wordBytes b) 4)))
+    ∙ ap le (piece (wordBytes b) 8 4 i [] (length-wordBytes b) p) ∙ le-lowBytes 8 (getD b i 0) (h .words i)
+
+-- the counter's block, word by word
+pub counter-words : (b : List ℕ) → Block b → (i : ℕ)
+    → counter (tagBytes b) i ≡ getD b 0 0 ∷ getD b 1 0 ∷ getD b 2 0 ∷ getD b 3 0 ∷ 0 ∷ 0 ∷ 0 ∷ 0 ∷ 0 ∷ 0 ∷ 0 ∷ 0 ∷ 0 ∷ 0 ∷ 0 ∷ i ∷ []
+unfolding counter zeros tab
+counter-words b h i = rw (word-tag b h 0 (lit< tt), word-tag b h 1 (lit< tt), word-tag b h 2 (lit< tt), word-tag b h 3 (lit< tt))
+
+-- 32 bytes come back from a block that begins with their words
+pub tag-words : (t rest : List ℕ) → Bytes t → length t ≡ 32 → tagBytes (tab (wordAt t) 4 ++ rest) ≡ t
+unfolding wordAt wordBytes
+tag-words t rest h e =
+    let b = tab (wordAt t) 4 ++ rest in
+    tag-is b ∙ cat-ext (wordBytes b) (λ i. take 8 (drop (8 * i) t)) 4 (λ i p. word i p) ∙ pieces 8 4 t ∙ take-all 32 t (omega arith)
+  where
+    word : (i : ℕ) → i < 4 → lowBytes 8 (getD (tab (wordAt t) 4 ++ rest) i 0) ≡ take 8 (drop (8 * i) t)
+    word i p =
+        let part = take 8 (drop (8 * i) t) in
+        let eight : length part ≡ 8 = simp (length-take, length-drop) (omega arith) in
+        let short : i < length (tab (wordAt t) 4) = subst (λ (n : ℕ). i < n) (sym (length-tab (wordAt t) 4)) p in
+        ap (lowBytes 8) (List·getD-append (tab (wordAt t) 4) rest 0 i short ∙ getD-tab (wordAt t) 4 i p)
+        ∙ ap (λ (k : ℕ). lowBytes k (le part)) (sym eight)
+        ∙ lowBytes-le part (bytes-take 8 (drop (8 * i) t) (bytes-drop (8 * i) t h))

@@ -1,0 +1,110 @@
+-- The message from the parcel's tag, the tag from the message, and what their comparison leaves. Assumes nothing.
+use mathlib.Core.Path.{_≡_, ap, ap₂, _∙_}
+use mathlib.Core.List.{_++_}
+use Prim.Native.Nat.{_-_}
+use native.Mathlib.Omega.{arith}
+use lib.ListN.{length, take, drop, length-drop, length-take}
+use lib.Seq.{length-take-le, take-at}
+use denote.Ref.{now}
+use Rattle.words.proofs.Lists.{tailPart}
+use Rattle.blockplan.specs.Plan.{tagBytes, same, cipherPart, tagPart}
+use Rattle.mro.specs.Mro.{mroTag, mroCipher}
+use Rattle.mro.proofs.Parts.{opened-as}
+use Rattle.mro.proofs.Opened.{length-mroCipher}
+use borrow.Author.Needs.{needs}
+use Rattle.mro.proofs.open.Statement.{statement}
+use Rattle.mro.proofs.open.Tie as tie
+
+sub-n : tie.Need-sub-n
+sub-n c = search needs
+
+sub-load-tag : tie.Need-sub-load-tag
+sub-load-tag c = search needs
+
+part-load-tag-start : tie.Need-part-load-tag-start
+part-load-tag-start c = search needs
+
+part-load-tag-end : tie.Need-part-load-tag-end
+part-load-tag-end c = search needs
+
+load-tag-requires : tie.Need-load-tag-requires
+load-tag-requires c κs = rw tailPart (simp length-drop (omega arith))
+
+slice-aggregate-xor-stream : tie.Need-slice-aggregate-xor-stream
+slice-aggregate-xor-stream c = simp length-take (omega arith)
+
+xor-stream-requires : tie.Need-xor-stream-requires
+xor-stream-requires c κs = simp length-take (omega arith)
+
+slice-reshare-prefix-tag-block : tie.Need-slice-reshare-prefix-tag-block
+slice-reshare-prefix-tag-block c = search needs
+
+slice-aggregate-tag-block : tie.Need-slice-aggregate-tag-block
+slice-aggregate-tag-block c = simp length-take (omega arith)
+
+tag-block-requires : tie.Need-tag-block-requires
+tag-block-requires c κs = search needs
+
+sub-same-tag : tie.Need-sub-same-tag
+sub-same-tag c = search needs
+
+part-same-tag-start : tie.Need-part-same-tag-start
+part-same-tag-start c = search needs
+
+part-same-tag-end : tie.Need-part-same-tag-end
+part-same-tag-end c = search needs
+
+same-tag-requires : tie.Need-same-tag-requires
+same-tag-requires c κs = rw tailPart (simp length-drop (omega arith))
+
+keep-requires : tie.Need-keep-requires
+keep-requires c κs = search needs
+
+same-length : tie.Need-same-length
+same-length c = search needs
+
+returns : tie.Need-returns
+unfolding mroTag cipherPart tagPart
+returns c =
+    let start = c .before .before .before .before .before .before .before .before .before .before .before .before .before .before .before .before .before .before in
+    let rounds = start .args .rounds in
+    let first = start .args .start in
+    let parcel = now (start .args .parcel) in
+    let old = now (start .args .out) in
+    let n = length parcel - 32 in
+    let load = c .before .before .before .before .before .before .before .before .before .before .before .before .before .load-tag in
+    let stream = c .before .before .before .before .before .before .before .before .before .before .xor-stream in
+    let out = stream .last .1 .1 .1 .1 .0 in
+    let message = mroCipher rounds first (tagPart parcel) (cipherPart parcel) in
+    let tag : tagBytes (load .result) ≡ tagPart parcel = load .ensures ∙ tailPart n parcel in
+    let short : length (take n parcel) ≡ n = length-take-le n parcel (omega arith) in
+    let long : length message ≡ n = length-mroCipher rounds first (tagPart parcel) (cipherPart parcel) ∙ short in
+    let streamed : out ≡ message ++ drop n old = rw (tag, short) at (stream .ensures) in
+    let front : take n out ≡ message = ap (take n) streamed ∙ take-at message (drop n old) n long in
+    let tag-block = c .before .before .before .before .before .before .tag-block in
+    let expected : tagBytes (tag-block .result) ≡ mroTag rounds first (now (start .args .header)) message = rw (tag-block .ensures, front) in
+    opened-as n message (mroTag rounds first (now (start .args .header)) message) (tagPart parcel) old out (c .before .before .keep .last .0) (c .before .before .before .before .same-tag .result) long streamed
+    (c .before .before .before .before .same-tag .ensures ∙ ap₂ same expected (tailPart n parcel))
+    (c .before .before .keep .ensures)
+
+pub open-spec : {M : Type 1} → statement M
+open-spec =
+    tie.close
+    (tie.spec
+    sub-n
+    sub-load-tag
+    part-load-tag-start
+    part-load-tag-end
+    load-tag-requires
+    slice-aggregate-xor-stream
+    xor-stream-requires
+    slice-reshare-prefix-tag-block
+    slice-aggregate-tag-block
+    tag-block-requires
+    sub-same-tag
+    part-same-tag-start
+    part-same-tag-end
+    same-tag-requires
+    keep-requires
+    same-length
+    returns)

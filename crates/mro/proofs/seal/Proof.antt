@@ -1,0 +1,60 @@
+-- The ciphertext written to the front, the tag behind it. Assumes nothing.
+use native.Mathlib.Omega.{arith}
+use lib.ListN.{length, length-drop}
+use denote.Ref.{now}
+use Rattle.words.proofs.Lists.{tailPart}
+use Rattle.blockplan.specs.Plan.{tagBytes}
+use Rattle.mro.specs.Mro.{mroTag, mroCipher}
+use Rattle.mro.proofs.Parts.{fronted}
+use Rattle.mro.proofs.Opened.{length-mroCipher}
+use borrow.Author.Needs.{needs}
+use Rattle.mro.proofs.seal.Statement.{statement}
+use Rattle.mro.proofs.seal.Tie as tie
+
+tag-block-requires : tie.Need-tag-block-requires
+tag-block-requires c κs = search needs
+
+xor-stream-requires : tie.Need-xor-stream-requires
+xor-stream-requires c κs = search needs
+
+sub-store-tag : tie.Need-sub-store-tag
+sub-store-tag c = search needs
+
+part-store-tag-start : tie.Need-part-store-tag-start
+part-store-tag-start c = search needs
+
+part-store-tag-end : tie.Need-part-store-tag-end
+part-store-tag-end c = search needs
+
+store-tag-requires : tie.Need-store-tag-requires
+store-tag-requires c κs = rw tailPart (simp length-drop (omega arith))
+
+same-length : tie.Need-same-length
+same-length c = search needs
+
+returns : tie.Need-returns
+unfolding mroTag
+returns c =
+    let start = c .before .before .before .before .before .before .before .before .before .before .before .before in
+    let tag = c .before .before .before .before .before .before .before .before .tag-block in
+    let m = now (start .args .message) in
+    let stream = c .before .before .before .before .before .before .xor-stream in
+    let cipher = mroCipher (start .args .rounds) (start .args .start) (tagBytes (tag .result)) m in
+    rw (tag .ensures)
+    at (fronted (length m) 32 cipher (tagBytes (tag .result)) (now (start .args .out)) (stream .last .1 .1 .1 .1 .0) (c .before .before .store-tag .last .1 .0)
+    (length-mroCipher (start .args .rounds) (start .args .start) (tagBytes (tag .result)) m)
+    (stream .ensures)
+    (c .before .before .store-tag .ensures))
+
+pub seal-spec : {M : Type 1} → statement M
+seal-spec =
+    tie.close
+    (tie.spec
+    tag-block-requires
+    xor-stream-requires
+    sub-store-tag
+    part-store-tag-start
+    part-store-tag-end
+    store-tag-requires
+    same-length
+    returns)

@@ -1,0 +1,175 @@
+-- The loop's invariant: the first i blocks are in, the others are as they were. Assumes nothing.
+use mathlib.Core.Path.{_≡_, refl, _∙_}
+use mathlib.Core.List.{_++_}
+use Prim.Native.Nat.{_*_, _-_, _/_, _≤_}
+use native.Mathlib.Omega.{arith}
+use lib.ListN.{length, drop, length-drop}
+use denote.Ref.{now}
+use Rattle.words.specs.Sequence.{cat}
+use Rattle.words.proofs.Lists.{appended, tailPart}
+use Rattle.blockplan.specs.Plan.{whole, left, blockAt, tagBytes}
+use Rattle.mro.proofs.Streams.{writtenAt, length-writtenAt, streamed-left, streamed-none}
+use borrow.Author.Needs.{needs}
+use Rattle.mro.proofs.stream.xor_stream.Statement.{statement}
+use Rattle.mro.proofs.stream.xor_stream.Tie as tie
+
+abbrev Inv-loop : tie.InvT-loop
+Inv-loop s tag rounds out₀ mask n i₀ out i = (i ≤ n) × ((n ≡ length s / 128) × ((length out ≡ length out₀) × (out ≡ cat (writtenAt rounds mask (tagBytes tag) s) i ++ drop (128 * i) out₀)))
+
+abbrev μ-loop : tie.MeasureT-loop
+μ-loop s tag rounds out₀ mask n i₀ out i = n - i
+
+gamma-requires : tie.Need-gamma-requires Inv-loop μ-loop
+gamma-requires c κs = search needs
+
+loop-holds : tie.Need-loop-holds Inv-loop μ-loop
+unfolding cat
+loop-holds c = (search needs, (refl, (refl, refl)))
+
+mul-at : tie.Need-mul-at Inv-loop μ-loop
+mul-at c = search needs
+
+sub-load : tie.Need-sub-load Inv-loop μ-loop
+sub-load c = search needs
+
+part-load-start : tie.Need-part-load-start Inv-loop μ-loop
+part-load-start c = search needs
+
+part-load-end : tie.Need-part-load-end Inv-loop μ-loop
+part-load-end c = search needs
+
+load-requires : tie.Need-load-requires Inv-loop μ-loop
+load-requires c κs = rw tailPart (simp length-drop (omega arith))
+
+stream-block-requires : tie.Need-stream-block-requires Inv-loop μ-loop
+stream-block-requires c κs = search needs
+
+xor-requires : tie.Need-xor-requires Inv-loop μ-loop
+xor-requires c κs = search needs
+
+sub-store : tie.Need-sub-store Inv-loop μ-loop
+sub-store c = search needs
+
+part-store-start : tie.Need-part-store-start Inv-loop μ-loop
+part-store-start c = search needs
+
+part-store-end : tie.Need-part-store-end Inv-loop μ-loop
+part-store-end c = search needs
+
+store-requires : tie.Need-store-requires Inv-loop μ-loop
+store-requires c κs = rw tailPart (simp length-drop (omega arith))
+
+add-i : tie.Need-add-i Inv-loop μ-loop
+add-i c = search needs
+
+loop-less : tie.Need-loop-less Inv-loop μ-loop
+loop-less c = search needs
+
+loop-again : tie.Need-loop-again Inv-loop μ-loop
+unfolding writtenAt blockAt
+loop-again c =
+    let at = c .before .before .before .before .before .before .before .before .before .loop in
+    let start = c .before .before .before .before .before .before .before .before .before .before .before .before .before in
+    let s = now (start .args .s) in (
+      omega arith,
+      (
+        refl,
+        (
+          omega (arith, c .before .out .given .1),
+          appended _ 128 (at .i) _ (at .out) (c .before .before .store .last .1 .0) (length-writtenAt _ _ _ s) (omega arith) (at .inv .1 .1 .1)
+              (rw (c .before .before .before .before .xor .ensures, c .before .before .before .before .before .stream-block .ensures, c .before .before .before .before .before .before .load .ensures, tailPart (128 * at .i) s) at (c .before .before .store .ensures)),
+        ),
+      ),
+    )
+
+mul-at-2 : tie.Need-mul-at-2 Inv-loop μ-loop
+mul-at-2 c = search needs
+
+sub-xor-leftover : tie.Need-sub-xor-leftover Inv-loop μ-loop
+sub-xor-leftover c = search needs
+
+part-xor-leftover-start : tie.Need-part-xor-leftover-start Inv-loop μ-loop
+part-xor-leftover-start c = search needs
+
+part-xor-leftover-end : tie.Need-part-xor-leftover-end Inv-loop μ-loop
+part-xor-leftover-end c = search needs
+
+stream-block-requires-2 : tie.Need-stream-block-requires-2 Inv-loop μ-loop
+stream-block-requires-2 c κs = search needs
+
+sub-xor-leftover-2 : tie.Need-sub-xor-leftover-2 Inv-loop μ-loop
+sub-xor-leftover-2 c = search needs
+
+part-xor-leftover-start-2 : tie.Need-part-xor-leftover-start-2 Inv-loop μ-loop
+part-xor-leftover-start-2 c = search needs
+
+part-xor-leftover-end-2 : tie.Need-part-xor-leftover-end-2 Inv-loop μ-loop
+part-xor-leftover-end-2 c = search needs
+
+xor-leftover-requires : tie.Need-xor-leftover-requires Inv-loop μ-loop
+xor-leftover-requires c κs =
+    let start = c .before .before .before .before .before .before .before .before .before in
+    let at = 128 * (length (now (start .args .s)) / 128) in
+    rw (tailPart at (now (start .args .s)), tailPart at (c .before .before .before .before .before .loop .out)) (simp length-drop (omega arith))
+
+same-length : tie.Need-same-length Inv-loop μ-loop
+same-length c = search needs
+
+returns : tie.Need-returns Inv-loop μ-loop
+unfolding whole left
+returns c =
+    let start = c .before .before .before .before .before .before .before .before .before .before .before .before in
+    let at = c .before .before .before .before .before .before .before .before .loop in
+    let s = now (start .args .s) in
+    let e : at .i ≡ length s / 128 = omega arith in
+    streamed-left _ (start .args .start) _ _ s _ (at .out) _ _ (c .before .before .before .before .before .before .before .before .before .gamma .ensures)
+    (rw e at (at .inv .1 .1 .1)) (c .before .before .before .before .stream-block2 .ensures)
+    (rw (tailPart (128 * (length s / 128)) s) at (c .before .before .xor-leftover .ensures))
+
+same-length-2 : tie.Need-same-length-2 Inv-loop μ-loop
+same-length-2 c = search needs
+
+returns-2 : tie.Need-returns-2 Inv-loop μ-loop
+unfolding whole
+returns-2 c =
+    let at = c .before .before .loop in
+    let start = c .before .before .before .before .before .before in
+    let s = now (start .args .s) in
+    let e : at .i ≡ length s / 128 = omega arith in
+    streamed-none _ (start .args .start) _ _ s _ (at .out) (c .before .before .before .gamma .ensures) (omega arith) (rw e at (at .inv .1 .1 .1))
+
+pub xor-stream-spec : {M : Type 1} → statement M
+xor-stream-spec =
+    tie.close
+    (tie.spec
+    Inv-loop
+    μ-loop
+    gamma-requires
+    loop-holds
+    mul-at
+    sub-load
+    part-load-start
+    part-load-end
+    load-requires
+    stream-block-requires
+    xor-requires
+    sub-store
+    part-store-start
+    part-store-end
+    store-requires
+    add-i
+    loop-less
+    loop-again
+    mul-at-2
+    sub-xor-leftover
+    part-xor-leftover-start
+    part-xor-leftover-end
+    stream-block-requires-2
+    sub-xor-leftover-2
+    part-xor-leftover-start-2
+    part-xor-leftover-end-2
+    xor-leftover-requires
+    same-length
+    returns
+    same-length-2
+    returns-2)

@@ -1,0 +1,41 @@
+// MRO: seal and open over a start block and a round count.
+mod stream;
+mod sums;
+
+use blockplan::tag::keep;
+use blockplan::tag::same_tag;
+use blockplan::tag::store_tag;
+use stream::load_tag;
+use stream::xor_stream;
+use sums::tag_block;
+ghost use mathlib.Core.Path.{_≡_};
+ghost use mathlib.Core.List.{_++_};
+ghost use Prim.Native.Nat.{_+_, _≤_};
+ghost use lib.ListN.{length, drop};
+ghost use Rattle.blockplan.specs.Plan.{opened, cipherPart, tagPart};
+ghost use Rattle.mro.specs.Mro.{mroTag, mroCipher};
+
+// The ciphertext, then the tag, to the front of the output.
+pub fn seal(start: [u64; 16], rounds: u32, header: &[u8], message: &[u8], out: &mut [u8])
+    requires { ⌜ length (now message) + 32 ≤ length (now out) ⌝ }
+    ensures { λ _. ⌜ now (out .exit) ≡ mroCipher rounds start (mroTag rounds start (now (header .entry)) (now (message .entry))) (now (message .entry)) ++ (mroTag rounds start (now (header .entry)) (now (message .entry)) ++ drop (length (now (message .entry)) + 32) (now (out .entry))) ⌝ }
+{
+    let n = message.len();
+    let tag = tag_block(start, rounds, header, message);
+    xor_stream(message, tag, start, rounds, out);
+    store_tag(tag, &mut out[n..]);
+}
+
+// The message to the front of the output where the parcel's tag is the message's, else zeros there.
+pub fn open(start: [u64; 16], rounds: u32, header: &[u8], parcel: &[u8], out: &mut [u8]) -> bool
+    requires { ⌜ (32 ≤ length (now parcel)) × (length (now parcel) ≤ length (now out) + 32) ⌝ }
+    ensures { λ r. ⌜ (r, now (out .exit)) ≡ opened (mroCipher rounds start (tagPart (now (parcel .entry))) (cipherPart (now (parcel .entry)))) (mroTag rounds start (now (header .entry)) (mroCipher rounds start (tagPart (now (parcel .entry))) (cipherPart (now (parcel .entry))))) (tagPart (now (parcel .entry))) (now (out .entry)) ⌝ }
+{
+    let n = parcel.len() - 32;
+    let tag = load_tag(&parcel[n..]);
+    xor_stream(&parcel[..n], tag, start, rounds, out);
+    let expected = tag_block(start, rounds, header, &out[..n]);
+    let right = same_tag(expected, &parcel[n..]);
+    keep(out, n, right);
+    right
+}

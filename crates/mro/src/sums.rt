@@ -1,0 +1,41 @@
+// Header and message summed, and the block that begins with their tag.
+use blockplan::absorb::absorb;
+use blockplan::leftover::padded;
+use masks::steps::beta;
+use mem::cipher::encipher;
+use words::block::xor;
+ghost use mathlib.Core.Path.{_≡_};
+ghost use Rattle.words.specs.Block.{xorBlock};
+ghost use Rattle.mem.specs.Mem.{encipher as enciphered};
+ghost use Rattle.blockplan.specs.Plan.{xorOver};
+ghost use Rattle.blockplan.specs.Stepped.{stepped};
+ghost use Rattle.mro.specs.Mro.{blocks, mroSum, lengths};
+
+// The sum of all blocks of s, a padded one included, the first under the mask given.
+fn absorb_all(s: &[u8], first: [u64; 16], rounds: u32) -> [u64; 16]
+    ensures { λ r. ⌜ r ≡ xorOver (stepped rounds first (now (s .entry))) (blocks (now (s .entry))) ⌝ }
+{
+    let front = absorb(s, first, rounds);
+    let sum = front.sum;
+    let at = 128 * (s.len() / 128);
+    if at == s.len() {
+        return sum;
+    }
+    let mask = front.mask;
+    xor(sum, encipher(padded(&s[at..], 0), mask, rounds))
+}
+
+// The block whose first 32 bytes are the tag.
+pub fn tag_block(start: [u64; 16], rounds: u32, header: &[u8], message: &[u8]) -> [u64; 16]
+    ensures { λ r. ⌜ r ≡ enciphered rounds start 0 2 0 (xorBlock (mroSum rounds start (now (header .entry)) (now (message .entry))) (lengths (now (header .entry)) (now (message .entry)))) ⌝ }
+{
+    let once = beta(start);
+    let sum = xor(
+        absorb_all(header, start, rounds),
+        absorb_all(message, once, rounds),
+    );
+    let h = header.len() as u64;
+    let m = message.len() as u64;
+    let both = [0, 0, 0, 0, 0, 0, 0, 0, 0, 0, 0, 0, 0, 0, h, m];
+    encipher(xor(sum, both), beta(once), rounds)
+}

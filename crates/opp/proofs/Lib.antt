@@ -1,0 +1,5 @@
+pub mod Parts
+pub mod Steps
+pub mod Sums
+pub mod Passes
+pub mod Opened

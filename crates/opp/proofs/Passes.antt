@@ -1,0 +1,146 @@
+-- The pass over the message: what it writes and checks, block by block and of the leftover. Assumes nothing.
+use mathlib.Core.Path.{_≡_, refl, sym, ap, ap₂, _∙_, subst}
+use mathlib.Core.Bool.{Bool, true, false, cond}
+use mathlib.Core.List.{List, [], _∷_, _++_, append-nil, append-assoc}
+use Prim.Native.Nat.{ℕ, zero, suc, _+_, _-_, _*_, _/_, _≤_, _<_}
+use native.Mathlib.Omega.{arith}
+use lib.ListN.{length, take, drop}
+use borrow.Rule.Slice.PartMut.{putMid}
+use Rattle.words.specs.Sequence.{cat, tab, times}
+use Rattle.words.specs.Block.{Block, Bytes, bytesOf, xorBlock, xorBytes, zeroBlock}
+use Rattle.words.proofs.Lists.{length-cat, cat-ext}
+use Rattle.words.proofs.Blocks.{length-bytesOf}
+use Rattle.masks.specs.Steps.{alpha, beta, gamma}
+use Rattle.mem.specs.Mem.{maskAt, under, unUnder, encipher, decipher}
+use Rattle.mem.proofs.Laws.{mask-alpha, decipher-block}
+use Rattle.blockplan.specs.Plan.{whole, left, hasLeft, blockAt, xorOver, xorIf, ciphered, tagBytes}
+use Rattle.blockplan.proofs.Plans.{xorOver-ext}
+use Rattle.blockplan.proofs.Ciphered.{whole-le, length-left, length-ciphered, whole-ciphered, left-ciphered, hasLeft-ciphered, blockAt-ciphered, block-blockAt}
+use Rattle.opp.specs.Opp.{padded, sealAt, openAt, oppStream, oppCipher, oppPlain, oppSum, oppCheck, oppTag}
+use Rattle.opp.proofs.Parts.{behind}
+use Rattle.opp.proofs.Steps.{beta-on}
+use Rattle.opp.proofs.Sums.{no-left, some-left, left-none}
+use Rattle.opp.specs.Pass.{crossed, crossedAt, bytesAt, plainAt, passed, plain}
+
+pub length-bytesAt : (opening : Bool) (rounds : ℕ) (first s : List ℕ) (i : ℕ) → length (bytesAt opening rounds first s i) ≡ 128
+unfolding bytesAt
+length-bytesAt opening rounds first s i = length-bytesOf (crossedAt opening rounds first s i)
+
+pub front-length : (opening : Bool) (rounds : ℕ) (first s : List ℕ) → length (cat (bytesAt opening rounds first s) (whole s)) ≡ 128 * whole s
+front-length opening rounds first s = length-cat (bytesAt opening rounds first s) 128 (whole s) (length-bytesAt opening rounds first s)
+
+module _ (rounds : ℕ) (start s : List ℕ) (l : Block start) where
+  -- masks stepped on from gamma of the start are those of E(i, 0, 1) and D(i, 0, 1)
+  crossed-is : (opening : Bool) (i : ℕ) → crossedAt opening rounds (gamma start) s i
+      ≡ cond opening (openAt rounds start i (blockAt s i)) (sealAt rounds start i (blockAt s i))
+  unfolding crossedAt crossed openAt sealAt encipher decipher maskAt times
+  crossed-is opening i = ap (λ (m : List ℕ). crossed opening rounds m (blockAt s i)) (sym (mask-alpha start l i 0 1))
+
+  -- what the pass writes: the whole blocks and the leftover
+  pub passed-is : (opening : Bool)
+      → passed opening rounds start s ≡ cat (bytesAt opening rounds (gamma start) s) (whole s) ++ xorBytes (left s) (bytesOf (oppStream rounds start (whole s)))
+  unfolding passed oppPlain oppCipher ciphered bytesAt
+  passed-is true = ap (λ (c : List ℕ). c ++ xorBytes (left s) (bytesOf (oppStream rounds start (whole s)))) (cat-ext _ _ (whole s) (λ i p. ap bytesOf (sym (crossed-is true i))))
+  passed-is false = ap (λ (c : List ℕ). c ++ xorBytes (left s) (bytesOf (oppStream rounds start (whole s)))) (cat-ext _ _ (whole s) (λ i p. ap bytesOf (sym (crossed-is false i))))
+
+  mask-blocks : times alpha (whole s) (gamma start) ≡ maskAt start (whole s) 0 1
+  unfolding maskAt times
+  mask-blocks = sym (mask-alpha start l (whole s) 0 1)
+
+  mask-left : beta (times alpha (whole s) (gamma start)) ≡ maskAt start (whole s) 1 1
+  mask-left = ap beta mask-blocks ∙ beta-on start l (whole s) 0 1
+
+  -- E of the zero block under the leftover's mask
+  abbrev pub leftStream : List ℕ
+  leftStream = under rounds (beta (times alpha (whole s) (gamma start))) zeroBlock
+
+  stream-is : leftStream ≡ oppStream rounds start (whole s)
+  unfolding oppStream encipher
+  stream-is = ap (λ (m : List ℕ). under rounds m zeroBlock) mask-left
+
+  module _ (h : Bytes s) where
+    opened-at : (i : ℕ) → i < whole s → blockAt (oppPlain rounds start s) i ≡ plainAt true rounds (gamma start) s i
+    unfolding oppPlain plainAt openAt
+    opened-at i p =
+        blockAt-ciphered (openAt rounds start) (oppStream rounds start) s i p (decipher-block rounds start (blockAt s i) l (block-blockAt s i h) i 0 1)
+        ∙ sym (crossed-is true i)
+
+    -- Check over the message, from what the pass had in hand
+    pub check-is : (opening : Bool) → oppCheck (plain opening rounds start s)
+        ≡ xorIf (hasLeft s) (xorOver (plainAt opening rounds (gamma start) s) (whole s))
+        (padded (cond opening (xorBytes (left s) (bytesOf (oppStream rounds start (whole s)))) (left s)))
+    unfolding plain oppCheck oppPlain plainAt
+    check-is true =
+        let f = openAt rounds start in
+        let g = oppStream rounds start in
+        rw (
+          hasLeft-ciphered f g s,
+          whole-ciphered f g s,
+          left-ciphered f g s,
+          xorOver-ext (blockAt (oppPlain rounds start s)) (plainAt true rounds (gamma start) s) (whole s) opened-at,
+        )
+    check-is false = refl
+
+    -- ---- no leftover
+
+    module _ (opening : Bool) (e : 128 * whole s ≡ length s) where
+      pub whole-written : (out : List ℕ)
+          → cat (bytesAt opening rounds (gamma start) s) (whole s) ++ drop (128 * whole s) out ≡ passed opening rounds start s ++ drop (length s) out
+      unfolding xorBytes tab
+      whole-written out = rw (passed-is opening, left-none s e, append-nil, e)
+
+      pub whole-check : xorOver (plainAt opening rounds (gamma start) s) (whole s) ≡ oppCheck (plain opening rounds start s)
+      unfolding xorIf
+      whole-check = rw (check-is opening, no-left s e)
+
+      pub whole-mask : times alpha (whole s) (gamma start) ≡ maskAt start (whole s) (cond (hasLeft s) 1 0) 1
+      whole-mask = rw (no-left s e) mask-blocks
+
+    -- ---- a leftover
+
+    module _ (opening : Bool) (q : 128 * whole s ≡ length s → ⊥) where
+      -- the leftover came back at the front of the part behind the whole blocks
+      pub left-written : (out xs ys : List ℕ) → xs ≡ cat (bytesAt opening rounds (gamma start) s) (whole s) ++ drop (128 * whole s) out
+          → ys ≡ xorBytes (left s) (bytesOf leftStream) ++ drop (length (left s)) (take (length xs - 128 * whole s) (drop (128 * whole s) xs))
+          → putMid (128 * whole s) (length xs - 128 * whole s) xs ys ≡ passed opening rounds start s ++ drop (length s) out
+      left-written out xs ys e p =
+          let n : 128 * whole s + length (left s) ≡ length s = rw (length-left s) (omega (arith, whole-le s)) in
+          behind (128 * whole s) (length (left s)) (cat (bytesAt opening rounds (gamma start) s) (whole s)) (xorBytes (left s) (bytesOf leftStream)) out xs ys
+          (front-length opening rounds (gamma start) s) e p
+          ∙ rw (passed-is opening, append-assoc, n, stream-is)
+
+      pub left-check : xorBlock (xorOver (plainAt opening rounds (gamma start) s) (whole s)) (padded (cond opening (xorBytes (left s) (bytesOf leftStream)) (left s)))
+          ≡ oppCheck (plain opening rounds start s)
+      unfolding xorIf
+      left-check = rw (check-is opening, some-left s q, stream-is)
+
+      pub left-mask : beta (times alpha (whole s) (gamma start)) ≡ maskAt start (whole s) (cond (hasLeft s) 1 0) 1
+      left-mask = rw (some-left s q) mask-left
+
+    -- ---- the tag
+
+    whole-plain : (opening : Bool) → whole (plain opening rounds start s) ≡ whole s
+    unfolding plain oppPlain
+    whole-plain true = whole-ciphered (openAt rounds start) (oppStream rounds start) s
+    whole-plain false = refl
+
+    hasLeft-plain : (opening : Bool) → hasLeft (plain opening rounds start s) ≡ hasLeft s
+    unfolding plain oppPlain
+    hasLeft-plain true = hasLeft-ciphered (openAt rounds start) (oppStream rounds start) s
+    hasLeft-plain false = refl
+
+    -- two beta steps on from the message's last mask
+    two-on : (more : Bool) → beta (beta (maskAt start (whole s) (cond more 1 0) 1)) ≡ maskAt start (whole s) (cond more 3 2) 1
+    two-on true = ap beta (beta-on start l (whole s) 1 1) ∙ beta-on start l (whole s) 2 1
+    two-on false = ap beta (beta-on start l (whole s) 0 1) ∙ beta-on start l (whole s) 1 1
+
+    pub tag-is : (opening : Bool) (header : List ℕ)
+        → tagBytes (xorBlock (oppSum rounds start header) (under rounds (beta (beta (maskAt start (whole s) (cond (hasLeft s) 1 0) 1))) (oppCheck (plain opening rounds start s))))
+        ≡ oppTag rounds start header (plain opening rounds start s)
+    unfolding oppTag encipher
+    tag-is opening header = rw (whole-plain opening, hasLeft-plain opening, two-on (hasLeft s))
+
+pub length-passed : (opening : Bool) (rounds : ℕ) (start s : List ℕ) → length (passed opening rounds start s) ≡ length s
+unfolding passed oppPlain oppCipher
+length-passed true rounds start s = length-ciphered (openAt rounds start) (oppStream rounds start) s
+length-passed false rounds start s = length-ciphered (sealAt rounds start) (oppStream rounds start) s

@@ -1,0 +1,103 @@
+-- The whole blocks, and the leftover where there is one. Assumes nothing.
+use mathlib.Core.Path.{_≡_, _∙_}
+use Prim.Native.Nat.{_*_}
+use lib.ListN.{length}
+use denote.Ref.{now}
+use Rattle.words.specs.Block.{Block, Bytes}
+use Rattle.words.proofs.Lists.{tailPart}
+use Rattle.masks.proofs.Arrays.{array-block}
+use Rattle.blockplan.specs.Plan.{whole, left}
+use Rattle.opp.proofs.Passes.{whole-written, whole-check, whole-mask, left-written, left-check, left-mask}
+use borrow.Author.Needs.{needs}
+use Rattle.opp.proofs.message.pass.Statement.{statement}
+use Rattle.opp.proofs.message.pass.Tie as tie
+
+gamma-requires : tie.Need-gamma-requires
+gamma-requires c κs = search needs
+
+pass-blocks-requires : tie.Need-pass-blocks-requires
+pass-blocks-requires c κs = search needs
+
+mul-at : tie.Need-mul-at
+mul-at c = search needs
+
+same-length : tie.Need-same-length
+same-length c = search needs
+
+returns : tie.Need-returns
+unfolding whole
+returns c =
+    let start = c .before .before .before .before .before .before .before .before in
+    let a = start .args in
+    let s = now (a .s) in
+    let block : Block (a .start) = array-block _ _ (start .good .0) in
+    let bytes : Bytes s = record { bytes = λ i. c .before .before .before .before .before .before .before .shared-slice-known .given i .fits } in
+    let blocks = rw (c .before .before .before .before .before .gamma .ensures) at (c .before .before .before .pass-blocks .ensures) in
+    let e : 128 * whole s ≡ length s = c .if1 .taken in (
+      blocks .0 ∙ whole-written (a .rounds) (a .start) s block bytes (a .opening) e (now (a .out)),
+      (
+        blocks .1 .0 ∙ whole-check (a .rounds) (a .start) s block bytes (a .opening) e,
+        blocks .1 .1 ∙ whole-mask (a .rounds) (a .start) s block bytes (a .opening) e,
+      ),
+    )
+
+sub-pass-leftover : tie.Need-sub-pass-leftover
+sub-pass-leftover c = search needs
+
+part-pass-leftover-start : tie.Need-part-pass-leftover-start
+part-pass-leftover-start c = search needs
+
+part-pass-leftover-end : tie.Need-part-pass-leftover-end
+part-pass-leftover-end c = search needs
+
+sub-pass-leftover-2 : tie.Need-sub-pass-leftover-2
+sub-pass-leftover-2 c = search needs
+
+part-pass-leftover-start-2 : tie.Need-part-pass-leftover-start-2
+part-pass-leftover-start-2 c = search needs
+
+part-pass-leftover-end-2 : tie.Need-part-pass-leftover-end-2
+part-pass-leftover-end-2 c = search needs
+
+pass-leftover-requires : tie.Need-pass-leftover-requires
+pass-leftover-requires c κs = search needs
+
+same-length-2 : tie.Need-same-length-2
+same-length-2 c = search needs
+
+returns-2 : tie.Need-returns-2
+unfolding whole left
+returns-2 c =
+    let start = c .before .before .before .before .before .before .before .before .before .before .before .before .before in
+    let a = start .args in
+    let s = now (a .s) in
+    let block : Block (a .start) = array-block _ _ (start .good .0) in
+    let bytes : Bytes s = record { bytes = λ i. c .before .before .before .before .before .before .before .before .before .before .before .before .shared-slice-known .given i .fits } in
+    let blocks = rw (c .before .before .before .before .before .before .before .before .before .before .gamma .ensures) at (c .before .before .before .before .before .before .before .before .pass-blocks .ensures) in
+    let q : 128 * whole s ≡ length s → ⊥ = c .before .before .before .before .before .if1 .left in
+    let rest = rw (blocks .1 .0, blocks .1 .1, tailPart (128 * whole s) s) at (c .before .before .pass-leftover .ensures) in (
+      left-written (a .rounds) (a .start) s block bytes (a .opening) q (now (a .out)) _ _ (blocks .0) (rest .0),
+      (
+        rest .1 .0 ∙ left-check (a .rounds) (a .start) s block bytes (a .opening) q,
+        rest .1 .1 ∙ left-mask (a .rounds) (a .start) s block bytes (a .opening) q,
+      ),
+    )
+
+pub pass-spec : {M : Type 1} → statement M
+pass-spec =
+    tie.close
+    (tie.spec
+    gamma-requires
+    pass-blocks-requires
+    mul-at
+    same-length
+    returns
+    sub-pass-leftover
+    part-pass-leftover-start
+    part-pass-leftover-end
+    sub-pass-leftover-2
+    part-pass-leftover-start-2
+    part-pass-leftover-end-2
+    pass-leftover-requires
+    same-length-2
+    returns-2)

@@ -1,0 +1,2 @@
+pub mod Opp
+pub mod Pass

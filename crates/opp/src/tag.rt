@@ -1,0 +1,37 @@
+// The sum over the header, and the block whose first 32 bytes are the tag.
+use crate::message::Passed;
+use blockplan::absorb::absorb;
+use blockplan::leftover::padded;
+use masks::steps::beta;
+use mem::cipher::encipher;
+use words::block::xor;
+ghost use mathlib.Core.Path.{_≡_};
+ghost use Rattle.words.specs.Block.{xorBlock};
+ghost use Rattle.masks.specs.Steps.{beta as betaOf};
+ghost use Rattle.mem.specs.Mem.{under};
+ghost use Rattle.opp.specs.Opp.{oppSum};
+
+// Sum: the header's whole blocks, and its leftover under a mask a beta step on.
+fn header_sum(start: [u64; 16], rounds: u32, header: &[u8]) -> [u64; 16]
+    ensures { λ r. ⌜ r ≡ oppSum rounds start (now (header .entry)) ⌝ }
+{
+    let whole = absorb(header, start, rounds);
+    let sum = whole.sum;
+    let at = 128 * (header.len() / 128);
+    if at == header.len() {
+        return sum;
+    }
+    let mask = whole.mask;
+    let last = encipher(padded(&header[at..], 1), beta(mask), rounds);
+    xor(sum, last)
+}
+
+// Sum, xor E of the check under a mask two beta steps on from the message's last.
+pub fn tag_block(start: [u64; 16], rounds: u32, header: &[u8], passed: Passed) -> [u64; 16]
+    ensures { λ r. ⌜ r ≡ xorBlock (oppSum rounds start (now (header .entry))) (under rounds (betaOf (betaOf (passed .mask))) (passed .check)) ⌝ }
+{
+    let check = passed.check;
+    let mask = passed.mask;
+    let sum = header_sum(start, rounds, header);
+    xor(sum, encipher(check, beta(beta(mask)), rounds))
+}
