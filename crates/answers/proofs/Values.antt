@@ -1,5 +1,5 @@
 -- A bound on what a call answers, by the checks that it goes through. Assumes nothing.
-use mathlib.Core.Path.{_≡_, refl}
+use mathlib.Core.Path.{_≡_, refl, sym, subst}
 use mathlib.Core.Bool.{Bool, true, false}
 use mathlib.Core.List.{List}
 use Prim.Native.Nat.{ℕ, _/_, _%_, _^_, _<_}
@@ -17,3 +17,7 @@ refuse-lt n false a out next h g = g refl
 pub taken-apart : (a : Answer) → valueOf a < 2 ^ 32 → (codeOf a / 2 ^ 32 ≡ numberOf a) × (codeOf a % 2 ^ 32 ≡ valueOf a)
 unfolding codeOf
 taken-apart a h = (digits-div (numberOf a) h, digits-mod (numberOf a) h)
+
+-- what a call answered is as small as what it was to answer
+pub answered-lt : (n : ℕ) {a : Answer} {out : List ℕ} {r : Answer × List ℕ} → (a, out) ≡ r → valueOf (r .0) < n → valueOf a < n
+answered-lt n e h = subst (λ (x : Answer × List ℕ). valueOf (x .0) < n) (sym e) h

@@ -5,15 +5,19 @@ use mathlib.Core.List.{List, [], _∷_}
 use Prim.Native.Nat.{ℕ, zero, suc, _<_}
 use native.Mathlib.Omega.{arith}
 use lib.ListN.{length, getD}
-use Rattle.words.specs.Sequence.{tab}
+use Rattle.words.specs.Sequence.{tab, cat, fold, times, zeros}
 use Rattle.words.specs.Word.{addW, rotR, rotL, shl}
-use Rattle.words.specs.Block.{zeroBlock, xorAt, xorBlock}
-use Rattle.permutation.specs.Permutation.{gOf, half, pick, put, stepAt, gAt, over, groups, round}
+use Rattle.words.specs.Block.{le, lowBytes, wordAt, blockOf, wordBytes, bytesOf, zeroBlock, xorAt, xorBlock, xorBytes}
+use Rattle.permutation.specs.Permutation.{gOf, half, pick, put, stepAt, gAt, over, groups, round, perm}
 use Rattle.masks.specs.Steps.{alphaW, alpha, beta, gamma}
 use Rattle.masks.specs.BackSteps.{unAlpha}
-use Rattle.blockplan.specs.Plan.{same}
+use Rattle.mem.specs.Mem.{startBlock, startOf, maskAt, under, encipher}
+use Rattle.blockplan.specs.Plan.{whole, left, hasLeft, blockAt, xorOver, xorIf, ciphered, tagBytes, same}
+use Rattle.opp.specs.Opp.{padded, headerAt, oppSum, oppCheck, oppTag, sealAt, oppStream, oppCipher}
+use Rattle.mro.specs.Mro.{blocks, absorbAt, mroSum, lengths, mroTag, counter, mroStream, streamed, mroCipher}
+use Rattle.sealing.specs.Sealing.{tagOf, cipherOf, parcelOf}
 use Rattle.blockplan.proofs.Plans.{same-true}
-use Rattle.known_answers.specs.KnownAnswers.{Row, word, g, table, right, Holds}
+use Rattle.known_answers.specs.KnownAnswers.{Row, word, g, full, sealed, table, right, Holds}
 
 both : (a b : Bool) → (a && b) ≡ true → (a ≡ true) × (b ≡ true)
 both true b e = (refl, e)
@@ -27,7 +31,7 @@ holds (r ∷ rows) e zero h = same-true (r .got) (r .want) (both (same (r .got) 
 holds (r ∷ rows) e (suc i) h = holds rows (both (same (r .got) (r .want)) (right rows) e .1) i (omega arith)
 
 computed : right table ≡ true
-unfolding right table same word g zeroBlock tab gOf half addW rotR rotL shl round over groups gAt stepAt pick put alpha alphaW beta gamma xorBlock xorAt unAlpha
+unfolding right table same word g full sealed zeroBlock tab cat fold times zeros le lowBytes wordAt blockOf wordBytes bytesOf xorBytes perm startBlock startOf maskAt under encipher whole left hasLeft blockAt xorOver xorIf ciphered tagBytes padded headerAt oppSum oppCheck oppTag sealAt oppStream oppCipher blocks absorbAt mroSum lengths mroTag counter mroStream streamed mroCipher tagOf cipherOf parcelOf gOf half addW rotR rotL shl round over groups gAt stepAt pick put alpha alphaW beta gamma xorBlock xorAt unAlpha
 computed = refl
 
 pub known-answers : Holds table

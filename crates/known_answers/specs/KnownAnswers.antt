@@ -1,14 +1,18 @@
--- The bench sheet's cases that are proved, P1 to P8, as rows of one table (document 01, "Bench sheet"). Assumes nothing.
+-- The bench sheet's cases that are proved, P1 to P11, as rows of one table (document 01, "Bench sheet"). Assumes nothing.
 use mathlib.Core.Path.{_≡_}
 use mathlib.Core.Bool.{Bool, true, _&&_}
-use mathlib.Core.List.{List, [], _∷_}
-use Prim.Native.Nat.{ℕ, _<_}
+use mathlib.Core.List.{List, [], _∷_, _++_}
+use Prim.Native.Nat.{ℕ, suc, _<_}
 use lib.ListN.{length, getD, set}
-use Rattle.words.specs.Block.{zeroBlock}
+use Rattle.words.specs.Sequence.{tab, zeros}
+use Rattle.words.specs.Block.{bytesOf, zeroBlock}
 use Rattle.permutation.specs.Permutation.{Quad, gOf, round}
 use Rattle.masks.specs.Steps.{alpha, beta, gamma}
 use Rattle.masks.specs.BackSteps.{unAlpha}
+use Rattle.mem.specs.Mem.{startOf}
 use Rattle.blockplan.specs.Plan.{same}
+use Rattle.opp.specs.Opp.{padded}
+use Rattle.sealing.specs.Sealing.{parcelOf}
 
 -- a case: what the definitions give, and what the sheet says
 pub record Row : Type 0 where
@@ -25,6 +29,14 @@ g a b c d =
     let q = gOf (record { a = a; b = b; c = c; d = d }) in
     q .a ∷ q .b ∷ q .c ∷ q .d ∷ []
 
+-- a leftover of 127 bytes, none of them zero
+unfoldable pub full : List ℕ
+full = tab (λ i. suc i) 127
+
+-- the parcel of a message with zero key and nonce and an empty header
+unfoldable pub sealed : ℕ → ℕ → List ℕ → List ℕ
+sealed mode rounds message = parcelOf mode rounds (startOf rounds (zeros 32) (zeros 16)) [] message
+
 unfoldable pub table : List Row
 table =
     record { got = g 1 0 0 0; want = 0x101 ∷ 0x0202000200020200 ∷ 0x0101000100010000 ∷ 0x0101000000010000 ∷ [] }  -- P1
@@ -35,6 +47,13 @@ table =
     ∷ record { got = alpha (word 5 0x0008000000000000); want = word 4 0x0008000000000000 }  -- P6
     ∷ record { got = beta (word 0 1); want = set (word 0 1) 15 0x0020000000000000 }  -- P7
     ∷ record { got = unAlpha (word 15 1); want = word 0 0x800 }  -- P8
+    ∷ record { got = bytesOf (padded full); want = full ++ (1 ∷ []) }  -- P9
+    ∷ record { got = sealed 1 4 []; want = zeros 32 }  -- P10, OPP and MRO, both round counts
+    ∷ record { got = sealed 1 6 []; want = zeros 32 }
+    ∷ record { got = sealed 2 4 []; want = zeros 32 }
+    ∷ record { got = sealed 2 6 []; want = zeros 32 }
+    ∷ record { got = sealed 1 4 (zeros 128); want = zeros 160 }  -- P11, both round counts
+    ∷ record { got = sealed 1 6 (zeros 128); want = zeros 160 }
     ∷ record { got = gamma (word 0 1); want = set (set (word 0 1) 14 0x0020000000000000) 15 0x0020000000000000 }  -- maskwalk's example
     ∷ []
 

@@ -1,23 +1,19 @@
 -- The call's answer, put into one number. Assumes nothing.
 use mir.Facts.{toZ-ofZ}
-use mathlib.Core.Path.{sym, ap, subst}
-use mathlib.Core.List.{List}
-use Prim.Native.Nat.{ℕ, _^_, _<_}
-use Rattle.answers.specs.Answers.{valueOf, coded}
-use Rattle.answers.specs.declared.Answer.{Answer}
+use mathlib.Core.Path.{ap}
+use Prim.Native.Nat.{_^_}
+use Rattle.answers.specs.Answers.{coded}
+use Rattle.answers.proofs.Values.{answered-lt}
 use Rattle.walking.proofs.Answered.{jump-small}
 use borrow.Author.Needs.{needs}
 use Rattle.calmbaize.proofs.calmbaize_jump.Statement.{statement}
 use Rattle.calmbaize.proofs.calmbaize_jump.Tie as tie
 
-abbrev small : Answer → Type 0
-small a = valueOf a < 2 ^ 32
-
 jump-requires : tie.Need-jump-requires
 jump-requires c κs = search needs
 
 code-requires : tie.Need-code-requires
-code-requires c κs = subst small (sym (ap (λ (r : Answer × List ℕ). r .0) (c .before .before .jump .ensures))) (jump-small _ _ _ _ _)
+code-requires c κs = answered-lt (2 ^ 32) (c .before .before .jump .ensures) (jump-small _ _ _ _ _)
 
 same-length : tie.Need-same-length
 same-length c = search needs

@@ -1,0 +1,17 @@
+-- The two tests in turn. Assumes nothing.
+use borrow.Author.Tests.{eq-eqb, ne-eqb}
+use Rattle.sealing.specs.Sealing.{isMode}
+use borrow.Author.Needs.{needs}
+use Rattle.sealing.proofs.checks.is_mode.Statement.{statement}
+use Rattle.sealing.proofs.checks.is_mode.Tie as tie
+
+returns : tie.Need-returns
+unfolding isMode
+returns c = simp (eq-eqb _ _ (c .if1 .taken))
+
+returns-2 : tie.Need-returns-2
+unfolding isMode
+returns-2 c = simp (ne-eqb _ _ (c .if1 .left))
+
+pub is-mode-spec : {M : Type 1} → statement M
+is-mode-spec = tie.close (tie.spec returns returns-2)

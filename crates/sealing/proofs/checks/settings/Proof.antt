@@ -1,0 +1,50 @@
+-- The first ground that holds decides. Assumes nothing.
+use native.Mathlib.Omega.{arith}
+use borrow.Author.Tests.{eq-eqb, ne-eqb, lt-ltb, le-ltb}
+use Rattle.sealing.specs.Sealing.{settings}
+use borrow.Author.Needs.{needs}
+use Rattle.sealing.proofs.checks.settings.Statement.{statement}
+use Rattle.sealing.proofs.checks.settings.Tie as tie
+
+is-mode-requires : tie.Need-is-mode-requires
+is-mode-requires c κs = search needs
+
+returns : tie.Need-returns
+unfolding settings
+returns c = (simp (← (c .before .is-mode .ensures), c .if1 .taken), λ e. absurd (omega arith))
+
+is-rounds-requires : tie.Need-is-rounds-requires
+is-rounds-requires c κs = search needs
+
+returns-2 : tie.Need-returns-2
+unfolding settings
+returns-2 c = (simp (← (c .before .before .before .is-mode .ensures), c .before .before .if1 .left, ← (c .before .is-rounds .ensures), c .if2 .taken), λ e. absurd (omega arith))
+
+returns-3 : tie.Need-returns-3
+unfolding settings
+returns-3 c = (simp (← (c .before .before .before .before .is-mode .ensures), c .before .before .before .if1 .left, ← (c .before .before .is-rounds .ensures), c .before .if2 .left, ne-eqb _ _ (c .if3 .taken)), λ e. absurd (omega arith))
+
+returns-4 : tie.Need-returns-4
+unfolding settings
+returns-4 c = (simp (← (c .before .before .before .before .before .is-mode .ensures), c .before .before .before .before .if1 .left, ← (c .before .before .before .is-rounds .ensures), c .before .before .if2 .left, eq-eqb _ _ (c .before .if3 .left), ne-eqb _ _ (c .if4 .taken)), λ e. absurd (omega arith))
+
+returns-5 : tie.Need-returns-5
+unfolding settings
+returns-5 c = (simp (← (c .before .before .before .before .before .before .is-mode .ensures), c .before .before .before .before .before .if1 .left, ← (c .before .before .before .before .is-rounds .ensures), c .before .before .before .if2 .left, eq-eqb _ _ (c .before .before .if3 .left), eq-eqb _ _ (c .before .if4 .left), lt-ltb _ _ (c .if5 .taken)), λ e. absurd (omega arith))
+
+returns-6 : tie.Need-returns-6
+unfolding settings
+returns-6 c = (simp (← (c .before .before .before .before .before .before .is-mode .ensures), c .before .before .before .before .before .if1 .left, ← (c .before .before .before .before .is-rounds .ensures), c .before .before .before .if2 .left, eq-eqb _ _ (c .before .before .if3 .left), eq-eqb _ _ (c .before .if4 .left), le-ltb _ _ (c .if5 .left)), λ e. (c .before .before .if3 .left, c .before .if4 .left))
+
+pub settings-spec : {M : Type 1} → statement M
+settings-spec =
+    tie.close
+    (tie.spec
+    is-mode-requires
+    returns
+    is-rounds-requires
+    returns-2
+    returns-3
+    returns-4
+    returns-5
+    returns-6)
