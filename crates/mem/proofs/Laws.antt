@@ -6,9 +6,9 @@ use native.Mathlib.Omega.{arith}
 use lib.Dec.{lit<}
 use lib.ListN.{length, getD, length-append}
 use Rattle.words.specs.Sequence.{tab, times, zeros}
-use Rattle.words.specs.Block.{Block, Bytes, wordAt, blockOf, xorBlock, zeroBlock}
+use Rattle.words.specs.Block.{Block, Bytes, wordAt, blockOf, xorBlock}
 use Rattle.words.proofs.Lists.{length-tab, getD-tab}
-use Rattle.words.proofs.Blocks.{xor-block, xorBlock-cancel, xorBlock-zero, zero-block, below-tab, block-blockOf}
+use Rattle.words.proofs.Blocks.{xor-block, xorBlock-cancel, below-tab, block-blockOf}
 use Rattle.words.proofs.Times.{times-keeps, times-commute}
 use Rattle.permutation.specs.Permutation.{perm, unPerm}
 use Rattle.permutation.proofs.Undone.{perm-block, unPerm-block, unPerm-perm, perm-unPerm}
@@ -105,10 +105,3 @@ first-block key nonce hk hn = record {
 pub start-block : (rounds : ℕ) (key nonce : List ℕ) → Bytes key → Bytes nonce → Block (startOf rounds key nonce)
 unfolding startOf
 start-block rounds key nonce hk hn = perm-block rounds (startBlock key nonce) (first-block key nonce hk hn)
-
--- under the zero mask E is P
-pub under-zero : (n : ℕ) (block : List ℕ) → Block block → under n zeroBlock block ≡ perm n block
-unfolding under
-under-zero n block b =
-    xorBlock-zero (perm n (xorBlock block zeroBlock)) (perm-block n (xorBlock block zeroBlock) (xor-block block zeroBlock b zero-block))
-    ∙ ap (perm n) (xorBlock-zero block b)

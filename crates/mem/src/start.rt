@@ -1,6 +1,5 @@
 // The start of the masks.
-use crate::cipher::encipher;
-use words::block::zero;
+use permutation::permute::permute;
 use words::word::load_word;
 ghost use mathlib.Core.Path.{_≡_};
 ghost use lib.ListN.{length};
@@ -20,11 +19,10 @@ fn start_block(key: &[u8], nonce: &[u8]) -> [u64; 16]
     [n0, n1, 0, 0, 0, 0, 0, 0, 0, 0, 0, 0, k0, k1, k2, k3]
 }
 
-// The start for a key of 32 bytes and a nonce of 16. P is E under the zero mask: a second caller of
-// permute would keep it from being compiled into encipher.
+// The start for a key of 32 bytes and a nonce of 16.
 pub fn start(key: &[u8], nonce: &[u8], rounds: u32) -> [u64; 16]
     requires { ⌜ (length (now key) ≡ 32) × (length (now nonce) ≡ 16) ⌝ }
     ensures { λ r. ⌜ r ≡ startOf rounds (now (key .entry)) (now (nonce .entry)) ⌝ }
 {
-    encipher(start_block(key, nonce), zero(), rounds)
+    permute(start_block(key, nonce), rounds)
 }

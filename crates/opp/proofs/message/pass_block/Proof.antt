@@ -54,10 +54,10 @@ unfolding crossed
 returns-2 c =
     let a = c .before .before .before .before .before .before .before .before .before .before .args in
     let given = c .before .before .before .before .before .before .before .load .ensures in
-    let made = c .before .before .before .before .before .encipher .ensures ∙ ap (under (a .rounds) (a .mask)) given in
+    let made = c .before .before .before .before .encipher .ensures ∙ ap (under (a .rounds) (a .mask)) given in
     rw (c .before .before .before .before .before .before .if1 .left) (
-      c .before .before .before .store2 .ensures ∙ ap (λ (b : List ℕ). bytesOf b ++ drop 128 (now (a .out))) made,
-      c .xor2 .ensures ∙ ap (xorBlock (a .check)) given,
+      c .before .before .store2 .ensures ∙ ap (λ (b : List ℕ). bytesOf b ++ drop 128 (now (a .out))) made,
+      c .before .before .before .before .before .xor2 .ensures ∙ ap (xorBlock (a .check)) given,
     )
 
 pub pass-block-spec : {M : Type 1} → statement M
@@ -68,9 +68,9 @@ pass-block-spec =
     decipher-requires
     store-requires
     xor-requires
+    xor-requires-2
     encipher-requires
     store-requires-2
-    xor-requires-2
     same-length
     returns
     same-length-2
