@@ -12,17 +12,17 @@ use words::block::store;
 use words::block::xor;
 use words::block::zero;
 ghost use mathlib.Core.Path.{_≡_};
-ghost use mathlib.Core.Bool.{cond};
+ghost use mathlib.Core.Bool.{cond, true, false};
 ghost use mathlib.Core.List.{_++_};
 ghost use Prim.Native.Nat.{_*_, _<_, _≤_};
 ghost use lib.ListN.{length, drop};
 ghost use Rattle.words.specs.Sequence.{cat, times};
 ghost use Rattle.words.specs.Block.{blockOf, bytesOf, xorBlock, xorBytes, zeroBlock};
 ghost use Rattle.masks.specs.Steps.{alpha as alphaOf, beta as betaOf};
-ghost use Rattle.mem.specs.Mem.{maskAt, under};
+ghost use Rattle.mem.specs.Mem.{maskAt, under, unUnder};
 ghost use Rattle.blockplan.specs.Plan.{whole, hasLeft, xorOver};
 ghost use Rattle.opp.specs.Opp.{padded as paddedOf, oppCheck};
-ghost use Rattle.opp.specs.Pass.{crossed, bytesAt, plainAt, passed, plain};
+ghost use Rattle.opp.specs.Pass.{bytesAt, plainAt, passed, plain};
 
 // The check so far, and the running mask.
 pub struct Passed {
@@ -30,37 +30,35 @@ pub struct Passed {
     pub mask: [u64; 16],
 }
 
-// One block: E of it, or D where a parcel is opened, to the front of the output, and the plain one of
-// the two into the check.
-fn pass_block(
-    check: [u64; 16],
-    mask: [u64; 16],
-    rounds: u32,
-    s: &[u8],
-    opening: bool,
-    out: &mut [u8],
-) -> [u64; 16]
+// One block sealed: E of it to the front of the output, and the block itself into the check.
+fn seal_block(check: [u64; 16], mask: [u64; 16], rounds: u32, s: &[u8], out: &mut [u8]) -> [u64; 16]
     requires { ⌜ (128 ≤ length (now s)) × (128 ≤ length (now out)) ⌝ }
-    ensures { λ _. ⌜ now (out .exit) ≡ bytesOf (crossed opening rounds mask (blockOf (now (s .entry)))) ++ drop 128 (now (out .entry)) ⌝ }
-    ensures { λ r. ⌜ r ≡ xorBlock check (cond opening (crossed opening rounds mask (blockOf (now (s .entry)))) (blockOf (now (s .entry)))) ⌝ }
+    ensures { λ _. ⌜ now (out .exit) ≡ bytesOf (under rounds mask (blockOf (now (s .entry)))) ++ drop 128 (now (out .entry)) ⌝ }
+    ensures { λ r. ⌜ r ≡ xorBlock check (blockOf (now (s .entry))) ⌝ }
 {
     let given = load(s);
-    if opening {
-        let made = decipher(given, mask, rounds);
-        store(made, out);
-        xor(check, made)
-    } else {
-        let sum = xor(check, given);
-        store(encipher(given, mask, rounds), out);
-        sum
-    }
+    let sum = xor(check, given);
+    store(encipher(given, mask, rounds), out);
+    sum
 }
 
-// The whole blocks, each written at its own offset, the first under the mask given.
-fn pass_blocks(first: [u64; 16], rounds: u32, s: &[u8], opening: bool, out: &mut [u8]) -> Passed
+// One block opened: D of it to the front of the output, and into the check.
+fn open_block(check: [u64; 16], mask: [u64; 16], rounds: u32, s: &[u8], out: &mut [u8]) -> [u64; 16]
+    requires { ⌜ (128 ≤ length (now s)) × (128 ≤ length (now out)) ⌝ }
+    ensures { λ _. ⌜ now (out .exit) ≡ bytesOf (unUnder rounds mask (blockOf (now (s .entry)))) ++ drop 128 (now (out .entry)) ⌝ }
+    ensures { λ r. ⌜ r ≡ xorBlock check (unUnder rounds mask (blockOf (now (s .entry)))) ⌝ }
+{
+    let made = decipher(load(s), mask, rounds);
+    store(made, out);
+    xor(check, made)
+}
+
+// The whole blocks sealed, each written at its own offset. The two ways have a loop each, since one
+// loop for both is a fifth slower.
+fn seal_blocks(first: [u64; 16], rounds: u32, s: &[u8], out: &mut [u8]) -> Passed
     requires { ⌜ length (now s) ≤ length (now out) ⌝ }
-    ensures { λ _. ⌜ now (out .exit) ≡ cat (bytesAt opening rounds first (now (s .entry))) (whole (now (s .entry))) ++ drop (128 * whole (now (s .entry))) (now (out .entry)) ⌝ }
-    ensures { λ r. ⌜ (r .check ≡ xorOver (plainAt opening rounds first (now (s .entry))) (whole (now (s .entry)))) × (r .mask ≡ times alphaOf (whole (now (s .entry))) first) ⌝ }
+    ensures { λ _. ⌜ now (out .exit) ≡ cat (bytesAt false rounds first (now (s .entry))) (whole (now (s .entry))) ++ drop (128 * whole (now (s .entry))) (now (out .entry)) ⌝ }
+    ensures { λ r. ⌜ (r .check ≡ xorOver (plainAt false rounds first (now (s .entry))) (whole (now (s .entry)))) × (r .mask ≡ times alphaOf (whole (now (s .entry))) first) ⌝ }
 {
     let mut check = zero();
     let mut mask = first;
@@ -68,13 +66,47 @@ fn pass_blocks(first: [u64; 16], rounds: u32, s: &[u8], opening: bool, out: &mut
     let mut i: usize = 0;
     while i < count {
         let at = 128 * i;
-        let next = pass_block(check, mask, rounds, &s[at..], opening, &mut out[at..]);
+        let next = seal_block(check, mask, rounds, &s[at..], &mut out[at..]);
         check = next;
         let step = alpha(mask);
         mask = step;
         i += 1;
     }
     Passed { check, mask }
+}
+
+// The whole blocks opened, each written at its own offset.
+fn open_blocks(first: [u64; 16], rounds: u32, s: &[u8], out: &mut [u8]) -> Passed
+    requires { ⌜ length (now s) ≤ length (now out) ⌝ }
+    ensures { λ _. ⌜ now (out .exit) ≡ cat (bytesAt true rounds first (now (s .entry))) (whole (now (s .entry))) ++ drop (128 * whole (now (s .entry))) (now (out .entry)) ⌝ }
+    ensures { λ r. ⌜ (r .check ≡ xorOver (plainAt true rounds first (now (s .entry))) (whole (now (s .entry)))) × (r .mask ≡ times alphaOf (whole (now (s .entry))) first) ⌝ }
+{
+    let mut check = zero();
+    let mut mask = first;
+    let count = s.len() / 128;
+    let mut i: usize = 0;
+    while i < count {
+        let at = 128 * i;
+        let next = open_block(check, mask, rounds, &s[at..], &mut out[at..]);
+        check = next;
+        let step = alpha(mask);
+        mask = step;
+        i += 1;
+    }
+    Passed { check, mask }
+}
+
+// The whole blocks, sealed or opened. The mask after them is one for the next block.
+fn pass_blocks(first: [u64; 16], rounds: u32, s: &[u8], opening: bool, out: &mut [u8]) -> Passed
+    requires { ⌜ length (now s) ≤ length (now out) ⌝ }
+    ensures { λ _. ⌜ now (out .exit) ≡ cat (bytesAt opening rounds first (now (s .entry))) (whole (now (s .entry))) ++ drop (128 * whole (now (s .entry))) (now (out .entry)) ⌝ }
+    ensures { λ r. ⌜ (r .check ≡ xorOver (plainAt opening rounds first (now (s .entry))) (whole (now (s .entry)))) × (r .mask ≡ times alphaOf (whole (now (s .entry))) first) ⌝ }
+{
+    if opening {
+        open_blocks(first, rounds, s, out)
+    } else {
+        seal_blocks(first, rounds, s, out)
+    }
 }
 
 // The plain one of a leftover's two forms, padded.

@@ -1,123 +1,33 @@
--- The loop's invariant: i blocks are written, the other bytes are as they were, the check has i blocks, and the mask is i steps on. Assumes nothing.
-use mathlib.Core.Path.{_≡_, refl}
-use mathlib.Core.List.{_++_}
-use Prim.Native.Nat.{_/_, _*_, _-_, _≤_}
-use native.Mathlib.Omega.{arith}
-use lib.ListN.{length, drop}
-use denote.Ref.{now}
-use Rattle.words.specs.Sequence.{cat, fold, times}
-use Rattle.words.proofs.Lists.{appended, tailPart, timesed}
-use Rattle.masks.specs.Steps.{alpha}
-use Rattle.blockplan.specs.Plan.{whole, blockAt, xorOver}
-use Rattle.blockplan.proofs.Plans.{summed}
-use Rattle.opp.specs.Pass.{crossedAt, bytesAt, plainAt}
-use Rattle.opp.proofs.Passes.{length-bytesAt}
+-- One way or the other. Assumes nothing.
 use borrow.Author.Needs.{needs}
 use Rattle.opp.proofs.message.pass_blocks.Statement.{statement}
 use Rattle.opp.proofs.message.pass_blocks.Tie as tie
 
-abbrev Inv-loop : tie.InvT-loop
-Inv-loop rounds s opening out₀ check₀ mask₀ count i₀ out check mask i =
-    (i ≤ count) × ((count ≡ length s / 128) × ((length out ≡ length out₀) × ((out ≡ cat (bytesAt opening rounds mask₀ s) i ++ drop (128 * i) out₀)
-    × ((check ≡ xorOver (plainAt opening rounds mask₀ s) i) × (mask ≡ times alpha i mask₀)))))
+open-blocks-requires : tie.Need-open-blocks-requires
+open-blocks-requires c κs = search needs
 
-abbrev μ-loop : tie.MeasureT-loop
-μ-loop rounds s opening out₀ check₀ mask₀ count i₀ out check mask i = count - i
+seal-blocks-requires : tie.Need-seal-blocks-requires
+seal-blocks-requires c κs = search needs
 
-zero-requires : tie.Need-zero-requires Inv-loop μ-loop
-zero-requires c κs = search needs
-
-loop-holds : tie.Need-loop-holds Inv-loop μ-loop
-unfolding cat xorOver fold times
-loop-holds c = (search needs, (refl, (refl, (refl, (c .zero .ensures, refl)))))
-
-mul-at : tie.Need-mul-at Inv-loop μ-loop
-mul-at c = search needs
-
-sub-pass-block : tie.Need-sub-pass-block Inv-loop μ-loop
-sub-pass-block c = search needs
-
-part-pass-block-start : tie.Need-part-pass-block-start Inv-loop μ-loop
-part-pass-block-start c = search needs
-
-part-pass-block-end : tie.Need-part-pass-block-end Inv-loop μ-loop
-part-pass-block-end c = search needs
-
-sub-pass-block-2 : tie.Need-sub-pass-block-2 Inv-loop μ-loop
-sub-pass-block-2 c = search needs
-
-part-pass-block-start-2 : tie.Need-part-pass-block-start-2 Inv-loop μ-loop
-part-pass-block-start-2 c = search needs
-
-part-pass-block-end-2 : tie.Need-part-pass-block-end-2 Inv-loop μ-loop
-part-pass-block-end-2 c = search needs
-
-pass-block-requires : tie.Need-pass-block-requires Inv-loop μ-loop
-pass-block-requires c κs = search needs
-
-alpha-requires : tie.Need-alpha-requires Inv-loop μ-loop
-alpha-requires c κs = search needs
-
-add-i : tie.Need-add-i Inv-loop μ-loop
-add-i c = search needs
-
-loop-less : tie.Need-loop-less Inv-loop μ-loop
-loop-less c = search needs
-
-loop-again : tie.Need-loop-again Inv-loop μ-loop
-unfolding bytesAt plainAt crossedAt blockAt
-loop-again c =
-    let at = c .before .before .before .before .before .before .before .loop in
-    let a = c .before .before .before .before .before .before .before .before .before .before .before .args in
-    let one = c .before .before .before .pass-block in
-    let here = rw (tailPart (128 * at .i) (now (a .s)), at .inv .1 .1 .1 .1 .1) at (one .ensures) in (
-      omega arith,
-      (
-        refl,
-        (
-          omega (arith, c .before .before .out .given .1),
-          (
-            appended _ 128 (at .i) _ _ (one .last .1 .1 .1 .1 .1 .0) (length-bytesAt (a .opening) (a .rounds) (a .first) (now (a .s))) (omega arith) (at .inv .1 .1 .1 .0) (here .0),
-            (
-              summed _ (at .i) (at .check) _ (at .inv .1 .1 .1 .1 .0) (here .1),
-              timesed alpha _ (at .i) (at .mask) _ (at .inv .1 .1 .1 .1 .1) (c .alpha .ensures),
-            ),
-          ),
-        ),
-      ),
-    )
-
-same-length : tie.Need-same-length Inv-loop μ-loop
+same-length : tie.Need-same-length
 same-length c = search needs
 
-returns : tie.Need-returns Inv-loop μ-loop
-unfolding whole
-returns c =
-    let at = c .before .loop in
-    let s = now (c .before .before .before .before .before .args .s) in
-    let e : at .i ≡ length s / 128 = omega arith in
-    let done = rw e at (at .inv .1 .1 .1) in
-    done
+returns : tie.Need-returns
+returns c = rw (c .before .before .before .before .if1 .taken) (c .before .before .open-blocks .ensures)
+
+same-length-2 : tie.Need-same-length-2
+same-length-2 c = search needs
+
+returns-2 : tie.Need-returns-2
+returns-2 c = rw (c .before .before .before .before .if1 .left) (c .before .before .seal-blocks .ensures)
 
 pub pass-blocks-spec : {M : Type 1} → statement M
 pass-blocks-spec =
     tie.close
     (tie.spec
-    Inv-loop
-    μ-loop
-    zero-requires
-    loop-holds
-    mul-at
-    sub-pass-block
-    part-pass-block-start
-    part-pass-block-end
-    sub-pass-block-2
-    part-pass-block-start-2
-    part-pass-block-end-2
-    pass-block-requires
-    alpha-requires
-    add-i
-    loop-less
-    loop-again
+    open-blocks-requires
+    seal-blocks-requires
     same-length
-    returns)
+    returns
+    same-length-2
+    returns-2)
