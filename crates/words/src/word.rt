@@ -36,23 +36,19 @@ fn wide(x: u8) -> u64
     x as u64
 }
 
-// The first eight bytes as a word. A product and a sum for each byte compile to one load.
+// The first eight bytes as a word. One flat sum of products, which compiles to one load.
 pub fn load_word(s: &[u8]) -> u64
     requires { ⌜ 8 ≤ length (now s) ⌝ }
     ensures { λ r. ⌜ r ≡ wordAt (now (s .entry)) 0 ⌝ }
 {
     wide(s[0])
-        + 256
-            * (wide(s[1])
-                + 256
-                    * (wide(s[2])
-                        + 256
-                            * (wide(s[3])
-                                + 256
-                                    * (wide(s[4])
-                                        + 256
-                                            * (wide(s[5])
-                                                + 256 * (wide(s[6]) + 256 * wide(s[7])))))))
+        + 0x100 * wide(s[1])
+        + 0x1_0000 * wide(s[2])
+        + 0x100_0000 * wide(s[3])
+        + 0x1_0000_0000 * wide(s[4])
+        + 0x100_0000_0000 * wide(s[5])
+        + 0x1_0000_0000_0000 * wide(s[6])
+        + 0x100_0000_0000_0000 * wide(s[7])
 }
 
 // The word into the first eight bytes.
