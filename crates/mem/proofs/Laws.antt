@@ -95,12 +95,12 @@ below-append m (x ∷ s) t hs ht (suc i) = below-append m s t (λ j. hs (suc j))
 pub first-block : (key nonce : List ℕ) → Bytes key → Bytes nonce → Block (startBlock key nonce)
 unfolding startBlock zeros
 first-block key nonce hk hn = record {
-      long = simp (length-append, length-tab);
-      words = below-append (2 ^ 64) (tab (wordAt nonce) 2) (tab (λ i. 0) 10 ++ tab (wordAt key) 4)
-          (below-tab (wordAt nonce) 2 (2 ^ 64) (lit< tt) (λ i p. word-lt nonce hn i (omega arith)))
-          (below-append (2 ^ 64) (tab (λ i. 0) 10) (tab (wordAt key) 4) (below-tab (λ i. 0) 10 (2 ^ 64) (lit< tt) (λ i p. lit< tt))
-          (below-tab (wordAt key) 4 (2 ^ 64) (lit< tt) (λ i p. word-lt key hk i (omega arith))));
-    }
+  long = simp (length-append, length-tab);
+  words = below-append (2 ^ 64) (tab (wordAt nonce) 2) (tab (λ i. 0) 10 ++ tab (wordAt key) 4)
+      (below-tab (wordAt nonce) 2 (2 ^ 64) (lit< tt) (λ i p. word-lt nonce hn i (omega arith)))
+      (below-append (2 ^ 64) (tab (λ i. 0) 10) (tab (wordAt key) 4) (below-tab (λ i. 0) 10 (2 ^ 64) (lit< tt) (λ i p. lit< tt))
+      (below-tab (wordAt key) 4 (2 ^ 64) (lit< tt) (λ i p. word-lt key hk i (omega arith))));
+}
 
 pub start-block : (rounds : ℕ) (key nonce : List ℕ) → Bytes key → Bytes nonce → Block (startOf rounds key nonce)
 unfolding startOf
