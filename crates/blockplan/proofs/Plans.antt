@@ -2,16 +2,15 @@
 use mathlib.Core.Path.{_≡_, refl, sym, ap, ap₂, _∙_}
 use mathlib.Core.Bool.{Bool, true, false, cond, _&&_, and-true, false≢true}
 use mathlib.Core.List.{List, [], _∷_, _++_}
-use Prim.Native.Nat.{ℕ, zero, suc, _+_, _*_, _/_, _≤_, _<_}
+use Prim.Native.Nat.{ℕ, zero, suc, _+_, _*_, _-_, _/_, _%_, _≤_, _<_}
 use native.Mathlib.Nat.{add-zero, mod-eq-of-lt}
 use native.Mathlib.Numerals.{add-one}
 use native.Mathlib.Omega.{arith}
 use native.Mathlib.Decide.{ℕ-discrete}
-use lib.Dec.{eqb, lit<}
+use lib.Dec.{eqb}
 use lib.Bits.{bitOr, bitXor, bitAnd, xor-self, and-mask, and-zero-r, and-le-r, or-add-and}
 use lib.ListN.{length, getD, take, drop, take-append-drop}
 use lib.Seq.{take-suc, length-take-le, getD-append-add, getD-drop}
-use mir.Val.{boolByte}
 use borrow.Author.Tests.{eq-eqb, ne-eqb, eqb-true}
 use Rattle.words.specs.Sequence.{fold, tab, zeros}
 use Rattle.words.specs.Block.{Block, xorBlock, zeroBlock}
@@ -43,18 +42,42 @@ whole-is s i r e h = omega arith
 
 -- ---- bytes kept or cleared
 
+both : (a b : Bool) → (a && b) ≡ true → (a ≡ true) × (b ≡ true)
+both true b e = (refl, e)
+both false b e = absurd (false≢true e)
+
 -- byte j where it is kept, else zero
 unfoldable pub keptAt : Bool → List ℕ → ℕ → ℕ
 keptAt right s j = cond right (getD s j 0) 0
 
 -- all bits, or none, as a mask
-pub mask-lt : (right : Bool) → 255 * boolByte right < 256
-mask-lt true = lit< tt
-mask-lt false = lit< tt
-
-pub masked : (right : Bool) (x : ℕ) → x < 256 → bitAnd x (255 * boolByte right) ≡ cond right x 0
+pub masked : (right : Bool) (x : ℕ) → x < 256 → bitAnd x (cond right 255 0) ≡ cond right x 0
 masked true x h = and-mask x 8 ∙ mod-eq-of-lt h
 masked false x h = and-zero-r x
+
+-- a byte with the byte k places up or'ed in
+unfoldable pub orUp : ℕ → ℕ → ℕ
+orUp k x = bitOr x (x / k)
+
+unfoldable pub maskOf : ℕ → ℕ
+maskOf d = 255 * (1 - orUp 2 (orUp 4 (orUp 16 d)) % 2)
+
+unfoldable allBelow : (ℕ → Bool) → ℕ → Bool
+allBelow test zero = true
+allBelow test (suc n) = test n && allBelow test n
+
+below : (test : ℕ → Bool) (n : ℕ) → allBelow test n ≡ true → (d : ℕ) → d < n → test d ≡ true
+unfolding allBelow
+below test zero e d h = absurd (omega arith)
+below test (suc n) e d h = elim (ℕ-discrete d n) [
+  | yes p ↦ rw p (both (test n) (allBelow test n) e .0)
+  | no p ↦ below test n (both (test n) (allBelow test n) e .1) d (omega arith)
+]
+
+-- the lowest bit of a byte into which all others were or'ed, tried for each byte
+pub mask-is : (d : ℕ) → d < 256 → maskOf d ≡ cond (eqb d 0) 255 0
+unfolding maskOf orUp allBelow
+mask-is d h = eqb-true _ _ (below (λ (x : ℕ). eqb (maskOf x) (cond (eqb x 0) 255 0)) 256 refl d h)
 
 -- what a list filled from the front still holds at the next place
 pub untouched : (f : ℕ → ℕ) (i : ℕ) (old xs : List ℕ) → xs ≡ tab f i ++ drop i old → getD xs i 0 ≡ getD old i 0
@@ -74,10 +97,6 @@ kept false n s h = refl
 and-assoc : (a b c : Bool) → ((a && b) && c) ≡ (a && (b && c))
 and-assoc true b c = refl
 and-assoc false b c = refl
-
-both : (a b : Bool) → (a && b) ≡ true → (a ≡ true) × (b ≡ true)
-both true b e = (refl, e)
-both false b e = absurd (false≢true e)
 
 xor-none : (x y : ℕ) → bitXor x y ≡ 0 → x ≡ y
 xor-none x y e = sym (xor-cancel-r x y) ∙ ap (λ (z : ℕ). bitXor z y) e

@@ -5,6 +5,7 @@ ghost use mathlib.Core.Path.{_≡_};
 ghost use mathlib.Core.Bool.{cond, not};
 ghost use mathlib.Core.List.{_++_};
 ghost use Prim.Native.Nat.{_≤_};
+ghost use lib.Dec.{eqb};
 ghost use lib.ListN.{length, drop, take};
 ghost use Rattle.words.specs.Sequence.{zeros};
 ghost use Rattle.blockplan.specs.Plan.{tagBytes, same};
@@ -22,10 +23,10 @@ pub fn store_tag(b: [u64; 16], out: &mut [u8])
     }
 }
 
-// All 32 bytes are looked at, whether or not an early one differs.
-pub fn same_tag(b: [u64; 16], tag: &[u8]) -> bool
+// Zero where the tag is right: all 32 bytes are looked at, whether or not an early one differs.
+pub fn difference(b: [u64; 16], tag: &[u8]) -> u8
     requires { ⌜ length (now tag) ≡ 32 ⌝ }
-    ensures { λ r. ⌜ r ≡ same (tagBytes b) (now (tag .entry)) ⌝ }
+    ensures { λ r. ⌜ eqb r 0 ≡ same (tagBytes b) (now (tag .entry)) ⌝ }
 {
     let mut bytes = [0u8; 128];
     store(b, &mut bytes);
@@ -35,16 +36,27 @@ pub fn same_tag(b: [u64; 16], tag: &[u8]) -> bool
         differ = differ | (bytes[i] ^ tag[i]);
         i += 1;
     }
-    differ == 0
+    differ
 }
 
-// The first n bytes stay where the tag was right and become zero where it was not, by the same
-// steps in both cases.
-pub fn keep(out: &mut [u8], n: usize, right: bool)
-    requires { ⌜ n ≤ length (now out) ⌝ }
-    ensures { λ _. ⌜ now (out .exit) ≡ cond right (now (out .entry)) (zeros n ++ drop n (now (out .entry))) ⌝ }
+// All bits where nothing differs, none where something does: by shifts, for a test would be
+// compiled to a branch.
+fn mask_of(differ: u8) -> u8
+    ensures { λ r. ⌜ r ≡ cond (eqb differ 0) 255 0 ⌝ }
 {
-    let mask = 255 * (right as u8);
+    let a = differ | (differ >> 4);
+    let b = a | (a >> 2);
+    let c = b | (b >> 1);
+    255 * (1 - c % 2)
+}
+
+// The first n bytes stay where nothing differs and become zero where something does, by the same
+// steps in both cases.
+pub fn keep(out: &mut [u8], n: usize, differ: u8)
+    requires { ⌜ n ≤ length (now out) ⌝ }
+    ensures { λ _. ⌜ now (out .exit) ≡ cond (eqb differ 0) (now (out .entry)) (zeros n ++ drop n (now (out .entry))) ⌝ }
+{
+    let mask = mask_of(differ);
     let mut i: usize = 0;
     while i < n {
         out[i] = out[i] & mask;

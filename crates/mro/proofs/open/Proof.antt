@@ -3,6 +3,7 @@ use mathlib.Core.Path.{_≡_, ap, ap₂, _∙_}
 use mathlib.Core.List.{_++_}
 use Prim.Native.Nat.{_-_}
 use native.Mathlib.Omega.{arith}
+use lib.Dec.{eqb}
 use lib.ListN.{length, take, drop, length-drop, length-take}
 use lib.Seq.{length-take-le, take-at}
 use denote.Ref.{now}
@@ -45,17 +46,17 @@ slice-aggregate-tag-block c = simp length-take (omega arith)
 tag-block-requires : tie.Need-tag-block-requires
 tag-block-requires c κs = search needs
 
-sub-same-tag : tie.Need-sub-same-tag
-sub-same-tag c = search needs
+sub-difference : tie.Need-sub-difference
+sub-difference c = search needs
 
-part-same-tag-start : tie.Need-part-same-tag-start
-part-same-tag-start c = search needs
+part-difference-start : tie.Need-part-difference-start
+part-difference-start c = search needs
 
-part-same-tag-end : tie.Need-part-same-tag-end
-part-same-tag-end c = search needs
+part-difference-end : tie.Need-part-difference-end
+part-difference-end c = search needs
 
-same-tag-requires : tie.Need-same-tag-requires
-same-tag-requires c κs = rw tailPart (simp length-drop (omega arith))
+difference-requires : tie.Need-difference-requires
+difference-requires c κs = rw tailPart (simp length-drop (omega arith))
 
 keep-requires : tie.Need-keep-requires
 keep-requires c κs = search needs
@@ -83,8 +84,8 @@ returns c =
     let front : take n out ≡ message = ap (take n) streamed ∙ take-at message (drop n old) n long in
     let tag-block = c .before .before .before .before .before .before .tag-block in
     let expected : tagBytes (tag-block .result) ≡ mroTag rounds first (now (start .args .header)) message = rw (tag-block .ensures, front) in
-    opened-as n message (mroTag rounds first (now (start .args .header)) message) (tagPart parcel) old out (c .before .before .keep .last .0) (c .before .before .before .before .same-tag .result) long streamed
-    (c .before .before .before .before .same-tag .ensures ∙ ap₂ same expected (tailPart n parcel))
+    opened-as n message (mroTag rounds first (now (start .args .header)) message) (tagPart parcel) old out (c .before .before .keep .last .0) (eqb (c .before .before .before .before .difference .result) 0) long streamed
+    (c .before .before .before .before .difference .ensures ∙ ap₂ same expected (tailPart n parcel))
     (c .before .before .keep .ensures)
 
 pub open-spec : {M : Type 1} → statement M
@@ -101,10 +102,10 @@ open-spec =
     slice-reshare-prefix-tag-block
     slice-aggregate-tag-block
     tag-block-requires
-    sub-same-tag
-    part-same-tag-start
-    part-same-tag-end
-    same-tag-requires
+    sub-difference
+    part-difference-start
+    part-difference-end
+    difference-requires
     keep-requires
     same-length
     returns)

@@ -3,6 +3,7 @@ use mathlib.Core.Path.{_≡_, sym, _∙_}
 use mathlib.Core.Bool.{true}
 use Prim.Native.Nat.{_-_}
 use native.Mathlib.Omega.{arith}
+use lib.Dec.{eqb}
 use lib.ListN.{length, length-take}
 use lib.Seq.{length-take-le}
 use denote.Ref.{now}
@@ -31,17 +32,17 @@ pass-requires c κs = simp length-take (omega arith)
 tag-block-requires : tie.Need-tag-block-requires
 tag-block-requires c κs = search needs
 
-sub-same-tag : tie.Need-sub-same-tag
-sub-same-tag c = search needs
+sub-difference : tie.Need-sub-difference
+sub-difference c = search needs
 
-part-same-tag-start : tie.Need-part-same-tag-start
-part-same-tag-start c = search needs
+part-difference-start : tie.Need-part-difference-start
+part-difference-start c = search needs
 
-part-same-tag-end : tie.Need-part-same-tag-end
-part-same-tag-end c = search needs
+part-difference-end : tie.Need-part-difference-end
+part-difference-end c = search needs
 
-same-tag-requires : tie.Need-same-tag-requires
-same-tag-requires c κs = search needs
+difference-requires : tie.Need-difference-requires
+difference-requires c κs = search needs
 
 keep-requires : tie.Need-keep-requires
 keep-requires c κs = search needs
@@ -61,9 +62,9 @@ returns c =
     let bytes : Bytes s = bytes-take n (now (a .parcel)) all in
     let pass = c .before .before .before .before .before .before .before .before .before .pass .ensures in
     let tag = tag-is (a .rounds) (a .start) s block bytes true (now (a .header)) _ _ _ (pass .1 .1) (pass .1 .0) (c .before .before .before .before .before .before .tag-block .ensures) in
-    let right = rw (tailPart n (now (a .parcel)), tag) at (c .before .before .before .before .same-tag .ensures) in
+    let right = rw (tailPart n (now (a .parcel)), tag) at (c .before .before .before .before .difference .ensures) in
     let long : length s ≡ n = length-take-le n (now (a .parcel)) (omega arith) in
-    opened-is _ n (oppPlain (a .rounds) (a .start) s) _ (tagPart (now (a .parcel))) (now (a .out)) _ _
+    opened-is (eqb (c .before .before .before .before .difference .result) 0) n (oppPlain (a .rounds) (a .start) s) _ (tagPart (now (a .parcel))) (now (a .out)) _ _
     (length-passed true (a .rounds) (a .start) s ∙ long) right (rw long at (pass .0)) (c .before .before .keep .ensures)
 
 pub open-spec : {M : Type 1} → statement M
@@ -74,10 +75,10 @@ open-spec =
     slice-aggregate-pass
     pass-requires
     tag-block-requires
-    sub-same-tag
-    part-same-tag-start
-    part-same-tag-end
-    same-tag-requires
+    sub-difference
+    part-difference-start
+    part-difference-end
+    difference-requires
     keep-requires
     same-length
     returns)

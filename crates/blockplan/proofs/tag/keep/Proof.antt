@@ -6,29 +6,28 @@ use native.Mathlib.Omega.{arith}
 use lib.ListN.{length, getD, take, drop, set, length-set, length-drop}
 use denote.Ref.{now}
 use mathlib.Core.Bool.{cond}
-use mir.Val.{boolByte}
+use lib.Dec.{eqb}
+use lib.Bits.{bitAnd}
 use Rattle.words.specs.Sequence.{tab, zeros}
 use Rattle.words.proofs.Lists.{placed}
-use Rattle.blockplan.proofs.Plans.{keptAt, mask-lt, masked, untouched, kept}
+use Rattle.blockplan.proofs.Plans.{keptAt, masked, untouched, kept}
 use borrow.Author.Needs.{needs}
 use Rattle.blockplan.proofs.tag.keep.Statement.{statement}
 use Rattle.blockplan.proofs.tag.keep.Tie as tie
 
 abbrev Inv-loop : tie.InvT-loop
-Inv-loop out₀ n right mask i₀ out i = (i ≤ n) × ((length out ≡ length out₀) × ((mask ≡ 255 * boolByte right) × (out ≡ tab (keptAt right out₀) i ++ drop i out₀)))
+Inv-loop out₀ n differ mask i₀ out i =
+    (i ≤ n) × ((length out ≡ length out₀) × ((mask ≡ cond (eqb differ 0) 255 0) × (out ≡ tab (keptAt (eqb differ 0) out₀) i ++ drop i out₀)))
 
 abbrev μ-loop : tie.MeasureT-loop
-μ-loop out₀ n right mask i₀ out i = n - i
+μ-loop out₀ n differ mask i₀ out i = n - i
 
-cast-mask : tie.Need-cast-mask Inv-loop μ-loop
-cast-mask c = search needs
-
-mul-mask : tie.Need-mul-mask Inv-loop μ-loop
-mul-mask c = record { fits = mask-lt (c .args .right) }
+mask-of-requires : tie.Need-mask-of-requires Inv-loop μ-loop
+mask-of-requires c κs = search needs
 
 loop-holds : tie.Need-loop-holds Inv-loop μ-loop
 unfolding tab
-loop-holds c = (search needs, (refl, (refl, refl)))
+loop-holds c = (search needs, (refl, (c .mask-of .ensures, refl)))
 
 slice-read-out : tie.Need-slice-read-out Inv-loop μ-loop
 slice-read-out c = search needs
@@ -46,15 +45,15 @@ loop-again : tie.Need-loop-again Inv-loop μ-loop
 unfolding keptAt
 loop-again c =
     let at = c .before .before .loop in
-    let start = c .before .before .before in
+    let start = c .before .before .before .before .before in
     let x = getD (at .out) (at .i) 0 in (
       omega arith,
       (
         simp length-set (at .inv .1 .0),
         (
-          refl,
+          at .inv .1 .1 .0,
           placed _ (at .i) _ (at .out) _ (omega arith) (at .inv .1 .1 .1)
-              (masked (start .args .right) x (c .slice-known .given (at .i) .fits) ∙ ap (λ (n : ℕ). cond (start .args .right) n 0) (untouched _ (at .i) _ (at .out) (at .inv .1 .1 .1))),
+              (ap (bitAnd x) (at .inv .1 .1 .0) ∙ masked (eqb (start .args .differ) 0) x (c .slice-known2 .given (at .i) .fits) ∙ ap (λ (n : ℕ). cond (eqb (start .args .differ) 0) n 0) (untouched _ (at .i) _ (at .out) (at .inv .1 .1 .1))),
         ),
       ),
     )
@@ -65,8 +64,8 @@ same-length c = search needs
 returns : tie.Need-returns Inv-loop μ-loop
 returns c =
     let at = c .before .loop in
-    let e : at .i ≡ c .before .before .args .n = omega arith in
-    rw e at (at .inv .1 .1 .1) ∙ kept (c .before .before .args .right) _ _ (c .before .before .pre)
+    let e : at .i ≡ c .before .before .before .before .args .n = omega arith in
+    rw e at (at .inv .1 .1 .1) ∙ kept (eqb (c .before .before .before .before .args .differ) 0) _ _ (c .before .before .before .before .pre)
 
 pub keep-spec : {M : Type 1} → statement M
 keep-spec =
@@ -74,8 +73,7 @@ keep-spec =
     (tie.spec
     Inv-loop
     μ-loop
-    cast-mask
-    mul-mask
+    mask-of-requires
     loop-holds
     slice-read-out
     slice-write-out

@@ -12,8 +12,8 @@ use Rattle.words.specs.Block.{bytesOf}
 use Rattle.blockplan.proofs.Plans.{compared}
 use Rattle.blockplan.specs.Plan.{tagBytes, same}
 use borrow.Author.Needs.{needs}
-use Rattle.blockplan.proofs.tag.same_tag.Statement.{statement}
-use Rattle.blockplan.proofs.tag.same_tag.Tie as tie
+use Rattle.blockplan.proofs.tag.difference.Statement.{statement}
+use Rattle.blockplan.proofs.tag.difference.Tie as tie
 
 abbrev Inv-loop : tie.InvT-loop
 Inv-loop tag bytes differ₀ i₀ differ i = (i ≤ 32) × ((length bytes ≡ 128) × (eqb differ 0 ≡ same (take i bytes) (take i tag)))
@@ -57,8 +57,8 @@ returns c =
     let bytes : c .before .before .before .store .last .1 .0 ≡ bytesOf (start .args .b) = c .before .before .before .store .ensures ∙ append-nil (bytesOf (start .args .b)) in
     rw (e, bytes, take-all 32 (now (start .args .tag)) (omega arith)) at (at .inv .1 .1)
 
-pub same-tag-spec : {M : Type 1} → statement M
-same-tag-spec =
+pub difference-spec : {M : Type 1} → statement M
+difference-spec =
     tie.close
     (tie.spec
     Inv-loop

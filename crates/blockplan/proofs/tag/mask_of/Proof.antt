@@ -1,0 +1,18 @@
+-- The byte's bits or'ed into the lowest one, as a law has it for each byte. Assumes nothing.
+use Rattle.blockplan.proofs.Plans.{orUp, maskOf, mask-is}
+use borrow.Author.Needs.{needs}
+use Rattle.blockplan.proofs.tag.mask_of.Statement.{statement}
+use Rattle.blockplan.proofs.tag.mask_of.Tie as tie
+
+sub-result : tie.Need-sub-result
+sub-result c = search needs
+
+mul-result : tie.Need-mul-result
+mul-result c = search needs
+
+returns : tie.Need-returns
+unfolding maskOf orUp
+returns c = mask-is (c .args .differ) (search needs)
+
+pub mask-of-spec : {M : Type 1} → statement M
+mask-of-spec = tie.close (tie.spec sub-result mul-result returns)
