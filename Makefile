@@ -5,8 +5,10 @@
 .DEFAULT_GOAL := dist
 .PHONY: dist demo test bench planted tools clean
 
-# What the checks need beside the toolchain, cargo and gcc, by the program and its Debian package.
+# What the checks need beside the toolchain, by the program and its Debian package.
 tools:
+	@tools/need.sh cargo cargo
+	@tools/need.sh c++ g++
 	@tools/need.sh valgrind valgrind
 
 dist:
@@ -20,7 +22,7 @@ demo: dist
 	@cd rust && cargo build --offline --release --quiet --package calmbaize-cli
 	@tools/demo.sh rust/target/release/calmbaize
 
-test: tools
+test:
 	@.ci/run
 
 bench: dist

@@ -50,6 +50,7 @@ cargo_in_rust() {
     (cd rust && cargo "$1" --offline --release --quiet "${@:2}")
 }
 
+make --no-print-directory tools || exit 2
 part "proofs, must-fail edits and programs" prove
 part "archive" archive
 if [ -f dist/libcalmbaize.a ]; then

@@ -10,14 +10,14 @@ use native.Mathlib.Decide.{ℕ-discrete}
 use lib.Dec.{eqb}
 use lib.Bits.{bitOr, bitXor, bitAnd, xor-self, and-mask, and-zero-r, and-le-r, or-add-and}
 use lib.ListN.{length, getD, take, drop, take-append-drop}
-use lib.Seq.{take-suc, length-take-le, getD-append-add, getD-drop}
+use lib.Seq.{take-suc, length-take-le, getD-append-add, getD-drop, drop-at}
 use borrow.Author.Tests.{eq-eqb, ne-eqb, eqb-true}
 use Rattle.words.specs.Sequence.{fold, tab, zeros}
 use Rattle.words.specs.Block.{Block, xorBlock, zeroBlock}
 use Rattle.words.proofs.Xor.{xor-cancel-r}
 use Rattle.words.proofs.Lists.{length-tab, front}
 use Rattle.words.proofs.Blocks.{xor-block, zero-block}
-use Rattle.blockplan.specs.Plan.{whole, left, blockAt, xorOver, same}
+use Rattle.blockplan.specs.Plan.{whole, left, blockAt, xorOver, same, opened}
 
 -- ---- sums
 
@@ -135,3 +135,14 @@ pub same-refl : (a : List ℕ) → same a a ≡ true
 unfolding same
 same-refl [] = refl
 same-refl (x ∷ xs) = rw (eq-eqb x x refl, same-refl xs)
+
+-- the answer and the output of opening, where n bytes of message were kept or cleared
+pub opened-as : (n : ℕ) (message expected tag old xs ys : List ℕ) (right : Bool) → length message ≡ n → xs ≡ message ++ drop n old
+    → right ≡ same expected tag → ys ≡ cond right xs (zeros n ++ drop n xs)
+    → (right, ys) ≡ opened message expected tag old
+unfolding opened
+opened-as n message expected tag old xs ys right ln e r q = rw (q, ← r, ln) (ap (λ (l : List ℕ). (right, l)) (chosen right))
+  where
+    chosen : (b : Bool) → cond b xs (zeros n ++ drop n xs) ≡ cond b message (zeros n) ++ drop n old
+    chosen true = e
+    chosen false = rw (e, drop-at message (drop n old) n ln)

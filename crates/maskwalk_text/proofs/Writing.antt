@@ -33,15 +33,6 @@ pub byte-in : (text old out : List ℕ) (i : ℕ) → i < length text → length
 byte-in text old out i h p e =
     put-after (take i text) old out i (getD text i 0) (length-take-le i text (omega arith)) (omega arith) e ∙ rw (add-one, take-suc text i 0 h)
 
--- a part after a front that came back with a new front of its own
-pub part-after : (p q old xs ys : List ℕ) (n m : ℕ) → length p ≡ n → xs ≡ p ++ drop n old
-    → ys ≡ q ++ drop m (take (length xs - n) (drop n xs)) → putMid n (length xs - n) xs ys ≡ p ++ q ++ drop (n + m) old
-part-after p q old xs ys n m e h g =
-    let back : drop n xs ≡ drop n old = ap (drop n) h ∙ drop-at p (drop n old) n e in
-    let head : take n xs ≡ p = ap (take n) h ∙ take-at p (drop n old) n e in
-    let none : drop (length xs - n) (drop n xs) ≡ [] = drop-of-length-le (drop n xs) {i = length xs - n} (simp length-drop (omega arith)) in
-    rw (head, none, g, tailPart, back, drop-drop, append-nil) (sym (append-assoc p q (drop (n + m) old)))
-
 pub length-digits : (base k n : ℕ) → length (digits base k n) ≡ k
 unfolding digits
 length-digits base zero n = refl

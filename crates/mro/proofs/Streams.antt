@@ -7,14 +7,13 @@ use lib.ListN.{length, take, drop, drop-of-length-le}
 use borrow.Rule.Slice.PartMut.{putMid}
 use Rattle.words.specs.Sequence.{cat, tab, times}
 use Rattle.words.specs.Block.{bytesOf, xorBlock, xorBytes}
-use Rattle.words.proofs.Lists.{length-cat}
+use Rattle.words.proofs.Lists.{length-cat, fronted}
 use Rattle.words.proofs.Blocks.{length-bytesOf}
 use Rattle.masks.specs.Steps.{gamma}
 use Rattle.mem.specs.Mem.{maskAt, under, encipher}
 use Rattle.blockplan.specs.Plan.{whole, left, blockAt, ciphered}
 use Rattle.blockplan.proofs.Ciphered.{length-left, whole-le}
 use Rattle.mro.specs.Mro.{counter, mroStream, streamed, mroCipher}
-use Rattle.mro.proofs.Parts.{fronted}
 
 -- block i of s as it is written, the stream's mask given
 unfoldable pub writtenAt : ℕ → List ℕ → List ℕ → List ℕ → ℕ → List ℕ

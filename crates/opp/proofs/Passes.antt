@@ -8,7 +8,7 @@ use lib.ListN.{length, take, drop}
 use borrow.Rule.Slice.PartMut.{putMid}
 use Rattle.words.specs.Sequence.{cat, tab, times}
 use Rattle.words.specs.Block.{Block, Bytes, bytesOf, xorBlock, xorBytes, zeroBlock}
-use Rattle.words.proofs.Lists.{length-cat, cat-ext}
+use Rattle.words.proofs.Lists.{length-cat, cat-ext, fronted}
 use Rattle.words.proofs.Blocks.{length-bytesOf}
 use Rattle.masks.specs.Steps.{alpha, beta, gamma}
 use Rattle.mem.specs.Mem.{maskAt, under, encipher, decipher}
@@ -17,7 +17,6 @@ use Rattle.blockplan.specs.Plan.{whole, left, hasLeft, blockAt, xorOver, xorIf,
 use Rattle.blockplan.proofs.Plans.{xorOver-ext}
 use Rattle.blockplan.proofs.Ciphered.{whole-le, length-left, length-ciphered, whole-ciphered, left-ciphered, hasLeft-ciphered, blockAt-ciphered, block-blockAt}
 use Rattle.opp.specs.Opp.{padded, sealAt, openAt, oppStream, oppCipher, oppPlain, oppSum, oppCheck, oppTag}
-use Rattle.opp.proofs.Parts.{behind}
 use Rattle.opp.proofs.Steps.{beta-on}
 use Rattle.opp.proofs.Sums.{no-left, some-left, left-none}
 use Rattle.opp.specs.Pass.{crossed, crossedAt, bytesAt, plainAt, passed, plain}
@@ -105,7 +104,7 @@ module _ (rounds : ℕ) (start s : List ℕ) (l : Block start) where
           → putMid (128 * whole s) (length xs - 128 * whole s) xs ys ≡ passed opening rounds start s ++ drop (length s) out
       left-written out xs ys e p =
           let n : 128 * whole s + length (left s) ≡ length s = rw (length-left s) (omega (arith, whole-le s)) in
-          behind (128 * whole s) (length (left s)) (cat (bytesAt opening rounds (gamma start) s) (whole s)) (xorBytes (left s) (bytesOf leftStream)) out xs ys
+          fronted (128 * whole s) (length (left s)) (cat (bytesAt opening rounds (gamma start) s) (whole s)) (xorBytes (left s) (bytesOf leftStream)) out xs ys
           (front-length opening rounds (gamma start) s) e p
           ∙ rw (passed-is opening, append-assoc, n, stream-is)
 

@@ -63,18 +63,23 @@ length-cat f w (suc n) h = rw (length-append, length-cat f w n h, h n, mul-suc)
 pub tailPart : (a : ℕ) (s : List ℕ) → take (length s - a) (drop a s) ≡ drop a s
 tailPart a s = take-all (length s - a) (drop a s) (simp length-drop (omega arith))
 
--- a part that came back with a new front of w bytes: one more piece is in
+-- the part from a on came back with a new front of w bytes
+pub fronted : (a w : ℕ) (before new old xs ys : List ℕ) → length before ≡ a → xs ≡ before ++ drop a old
+    → ys ≡ new ++ drop w (take (length xs - a) (drop a xs))
+    → putMid a (length xs - a) xs ys ≡ before ++ (new ++ drop (a + w) old)
+fronted a w before new old xs ys la e q =
+    let back : drop a xs ≡ drop a old = ap (drop a) e ∙ drop-at before (drop a old) a la in
+    let head : take a xs ≡ before = ap (take a) e ∙ take-at before (drop a old) a la in
+    let none : drop (length xs - a) (drop a xs) ≡ [] = drop-of-length-le (drop a xs) {i = length xs - a} (simp length-drop (omega arith)) in
+    rw (head, none, q, tailPart, back, drop-drop, append-nil)
+
+-- such a front is one more piece
 pub appended : (f : ℕ → List ℕ) (w i : ℕ) (old xs ys : List ℕ) → ((k : ℕ) → length (f k) ≡ w) → w * i + w ≤ length old
     → xs ≡ cat f i ++ drop (w * i) old → ys ≡ f i ++ drop w (take (length xs - w * i) (drop (w * i) xs))
     → putMid (w * i) (length xs - w * i) xs ys ≡ cat f (i + 1) ++ drop (w * (i + 1)) old
 unfolding cat
 appended f w i old xs ys hw h e q =
-    let front : length (cat f i) ≡ w * i = length-cat f w i hw in
-    let back : drop (w * i) xs ≡ drop (w * i) old = ap (drop (w * i)) e ∙ drop-at (cat f i) (drop (w * i) old) (w * i) front in
-    let head : take (w * i) xs ≡ cat f i = ap (take (w * i)) e ∙ take-at (cat f i) (drop (w * i) old) (w * i) front in
-    let none : drop (length xs - w * i) (drop (w * i) xs) ≡ [] = drop-of-length-le (drop (w * i) xs) {i = length xs - w * i} (simp length-drop (omega arith)) in
-    rw (head, none, q, tailPart, back, drop-drop, append-nil, add-one, mul-suc)
-    (sym (append-assoc (cat f i) (f i) (drop (w * i + w) old)))
+    fronted (w * i) w (cat f i) (f i) old xs ys (length-cat f w i hw) e q ∙ rw (add-one, mul-suc) (sym (append-assoc (cat f i) (f i) (drop (w * i + w) old)))
 
 -- the part from the next block on
 pub nextPart : (w i : ℕ) (t s : List ℕ) → t ≡ drop (w * i) s → take (length t - w) (drop w t) ≡ drop (w * (i + 1)) s

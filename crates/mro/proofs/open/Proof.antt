@@ -10,7 +10,7 @@ use denote.Ref.{now}
 use Rattle.words.proofs.Lists.{tailPart}
 use Rattle.blockplan.specs.Plan.{tagBytes, same, cipherPart, tagPart}
 use Rattle.mro.specs.Mro.{mroTag, mroCipher}
-use Rattle.mro.proofs.Parts.{opened-as}
+use Rattle.blockplan.proofs.Plans.{opened-as}
 use Rattle.mro.proofs.Opened.{length-mroCipher}
 use borrow.Author.Needs.{needs}
 use Rattle.mro.proofs.open.Statement.{statement}

@@ -2,10 +2,9 @@
 use native.Mathlib.Omega.{arith}
 use lib.ListN.{length, length-drop}
 use denote.Ref.{now}
-use Rattle.words.proofs.Lists.{tailPart}
+use Rattle.words.proofs.Lists.{tailPart, fronted}
 use Rattle.blockplan.specs.Plan.{tagBytes}
 use Rattle.mro.specs.Mro.{mroTag, mroCipher}
-use Rattle.mro.proofs.Parts.{fronted}
 use Rattle.mro.proofs.Opened.{length-mroCipher}
 use borrow.Author.Needs.{needs}
 use Rattle.mro.proofs.seal.Statement.{statement}

@@ -14,7 +14,7 @@ use Rattle.masks.proofs.Arrays.{array-block}
 use Rattle.blockplan.specs.Plan.{cipherPart, tagPart}
 use Rattle.opp.specs.Opp.{oppPlain}
 use Rattle.opp.specs.Pass.{passed, plain}
-use Rattle.opp.proofs.Parts.{opened-is}
+use Rattle.blockplan.proofs.Plans.{opened-as}
 use Rattle.opp.proofs.Passes.{tag-is, length-passed}
 use borrow.Author.Needs.{needs}
 use Rattle.opp.proofs.open.Statement.{statement}
@@ -64,8 +64,8 @@ returns c =
     let tag = tag-is (a .rounds) (a .start) s block bytes true (now (a .header)) _ _ _ (pass .1 .1) (pass .1 .0) (c .before .before .before .before .before .before .tag-block .ensures) in
     let right = rw (tailPart n (now (a .parcel)), tag) at (c .before .before .before .before .difference .ensures) in
     let long : length s ≡ n = length-take-le n (now (a .parcel)) (omega arith) in
-    opened-is (eqb (c .before .before .before .before .difference .result) 0) n (oppPlain (a .rounds) (a .start) s) _ (tagPart (now (a .parcel))) (now (a .out)) _ _
-    (length-passed true (a .rounds) (a .start) s ∙ long) right (rw long at (pass .0)) (c .before .before .keep .ensures)
+    opened-as n (oppPlain (a .rounds) (a .start) s) _ (tagPart (now (a .parcel))) (now (a .out)) _ _ (eqb (c .before .before .before .before .difference .result) 0)
+    (length-passed true (a .rounds) (a .start) s ∙ long) (rw long at (pass .0)) right (c .before .before .keep .ensures)
 
 pub open-spec : {M : Type 1} → statement M
 open-spec =

@@ -6,7 +6,7 @@ use Rattle.words.specs.Block.{Block, Bytes}
 use Rattle.masks.proofs.Arrays.{array-block}
 use Rattle.opp.specs.Opp.{oppCipher, oppTag}
 use Rattle.opp.specs.Pass.{passed, plain}
-use Rattle.opp.proofs.Parts.{behind}
+use Rattle.words.proofs.Lists.{fronted}
 use Rattle.opp.proofs.Passes.{tag-is, length-passed}
 use borrow.Author.Needs.{needs}
 use Rattle.opp.proofs.seal.Statement.{statement}
@@ -43,7 +43,7 @@ returns c =
     let bytes : Bytes m = record { bytes = λ i. c .before .before .before .before .before .before .before .before .before .before .shared-slice-known2 .given i .fits } in
     let pass = c .before .before .before .before .before .before .before .pass .ensures in
     let tag = tag-is (a .rounds) (a .start) m block bytes false (now (a .header)) _ _ _ (pass .1 .1) (pass .1 .0) (c .before .before .before .before .tag-block .ensures) in
-    behind (length m) 32 (oppCipher (a .rounds) (a .start) m) (oppTag (a .rounds) (a .start) (now (a .header)) m) (now (a .out)) _ _
+    fronted (length m) 32 (oppCipher (a .rounds) (a .start) m) (oppTag (a .rounds) (a .start) (now (a .header)) m) (now (a .out)) _ _
     (length-passed false (a .rounds) (a .start) m) (pass .0) (rw tag at (c .before .before .store-tag .ensures))
 
 pub seal-spec : {M : Type 1} → statement M

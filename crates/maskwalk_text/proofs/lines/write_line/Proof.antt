@@ -1,15 +1,15 @@
 -- Two digits, a space, sixteen digits, a line feed, each after what is written before. Assumes nothing.
-use mathlib.Core.Path.{ap, _∙_}
+use mathlib.Core.Path.{sym, ap, _∙_}
 use Prim.Native.Nat.{ℕ}
-use mathlib.Core.List.{List, [], _∷_, _++_}
+use mathlib.Core.List.{List, [], _∷_, _++_, append-assoc}
 use native.Mathlib.Omega.{arith}
 use lib.ListN.{length, drop, length-set, length-drop, length-append}
 use lib.Dec.{lit<, lit≤}
 use lib.Seq.{append-snoc}
 use denote.Ref.{now}
-use Rattle.words.proofs.Lists.{tailPart}
+use Rattle.words.proofs.Lists.{tailPart, fronted}
 use Rattle.maskwalk_text.specs.Text.{line, digits}
-use Rattle.maskwalk_text.proofs.Writing.{put-after, part-after, line-long, length-digits}
+use Rattle.maskwalk_text.proofs.Writing.{put-after, line-long, length-digits}
 use borrow.Author.Needs.{needs}
 use Rattle.maskwalk_text.proofs.lines.write_line.Statement.{statement}
 use Rattle.maskwalk_text.proofs.lines.write_line.Tie as tie
@@ -49,7 +49,7 @@ returns c =
     let front = digits 10 2 (start .args .i) in
     let word = digits 16 16 (start .args .word) in
     let spaced = put-after front out _ 2 32 (length-digits 10 2 (start .args .i)) (omega arith) (one .ensures) in
-    let full = part-after (front ++ (32 ∷ [])) word out _ _ 3 16 (simp (length-append, length-digits)) spaced (c .before .before .digits2 .ensures) in
+    let full = fronted 3 16 (front ++ (32 ∷ [])) word out _ _ (simp (length-append, length-digits)) spaced (c .before .before .digits2 .ensures) ∙ sym (append-assoc (front ++ (32 ∷ [])) word (drop 19 out)) in
     put-after (front ++ (32 ∷ []) ++ word) out _ 19 10 (simp (length-append, length-digits)) (omega arith) full
     ∙ ap (λ (l : List ℕ). l ++ (10 ∷ []) ++ drop 20 out) (append-snoc front 32 word)
 
