@@ -55,10 +55,11 @@ pub masked : (right : Bool) (x : ℕ) → x < 256 → bitAnd x (cond right 255 0
 masked true x h = and-mask x 8 ∙ mod-eq-of-lt h
 masked false x h = and-zero-r x
 
--- a byte with the byte k places up or'ed in
+-- a byte or'ed with its own bits from further up, k being a power of two
 unfoldable pub orUp : ℕ → ℕ → ℕ
 orUp k x = bitOr x (x / k)
 
+-- all bits or none, from the lowest bit once all others were or'ed into it
 unfoldable pub maskOf : ℕ → ℕ
 maskOf d = 255 * (1 - orUp 2 (orUp 4 (orUp 16 d)) % 2)
 
@@ -74,7 +75,7 @@ below test (suc n) e d h = elim (ℕ-discrete d n) [
   | no p ↦ below test n (both (test n) (allBelow test n) e .1) d (omega arith)
 ]
 
--- the lowest bit of a byte into which all others were or'ed, tried for each byte
+-- tried for each byte
 pub mask-is : (d : ℕ) → d < 256 → maskOf d ≡ cond (eqb d 0) 255 0
 unfolding maskOf orUp allBelow
 mask-is d h = eqb-true _ _ (below (λ (x : ℕ). eqb (maskOf x) (cond (eqb x 0) 255 0)) 256 refl d h)
