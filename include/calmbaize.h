@@ -10,10 +10,11 @@
  *     the pointer must be valid for that many bytes.
  *   - Buffers must not overlap: no byte of the output may belong to another
  *     argument.
- *   - Nothing is kept between calls and nothing is allocated. Calls with
- *     different outputs may run at the same time.
+ *   - Nothing is kept between calls and nothing is allocated. Calls may
+ *     run at the same time where no output overlaps a buffer of another call.
  *   - No branch and no address depends on the key, the nonce, the message, the
- *     parcel's content or its tag. Time depends on lengths and settings.
+ *     parcel's content or its tag (checked on x86-64). Time depends on lengths,
+ *     settings, step bytes and counts.
  */
 #ifndef CALMBAIZE_H
 #define CALMBAIZE_H
@@ -38,7 +39,7 @@ extern "C" {
 #define CALMBAIZE_STEPS_MAX 4096U
 #define CALMBAIZE_COUNT_MAX 65536
 
-/* The deepest stack of each call in bytes, on x86-64. */
+/* A bound on the stack of each call in bytes, on x86-64; the gate measures it. */
 #define CALMBAIZE_SEAL_STACK_BYTES 4096U
 #define CALMBAIZE_OPEN_STACK_BYTES 4096U
 #define CALMBAIZE_WALK_STACK_BYTES 8192U

@@ -51,9 +51,10 @@ unfoldable pub opened : List ℕ → List ℕ → List ℕ → List ℕ → Bool
 opened message expected tag out =
     (same expected tag, cond (same expected tag) message (zeros (length message)) ++ drop (length message) out)
 
--- a parcel is the ciphertext and then the tag
+-- a parcel is the ciphertext and then the tag, its last 32 bytes: its ciphertext
 unfoldable pub cipherPart : List ℕ → List ℕ
 cipherPart parcel = take (length parcel - 32) parcel
 
+-- its tag
 unfoldable pub tagPart : List ℕ → List ℕ
 tagPart parcel = drop (length parcel - 32) parcel

@@ -37,6 +37,7 @@ full = tab (λ i. suc i) 127
 unfoldable pub sealed : ℕ → ℕ → List ℕ → List ℕ
 sealed mode rounds message = parcelOf mode rounds (startOf rounds (zeros 32) (zeros 16)) [] message
 
+-- the lines P1 to P11, and maskwalk's example with "g"
 unfoldable pub table : List Row
 table =
     record { got = g 1 0 0 0; want = 0x101 ∷ 0x0202000200020200 ∷ 0x0101000100010000 ∷ 0x0101000000010000 ∷ [] }  -- P1

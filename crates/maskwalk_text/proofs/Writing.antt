@@ -1,13 +1,12 @@
 -- Laws of text that is written to a list in place, cited by the loops. Assumes nothing.
 use mathlib.Core.Path.{_≡_, refl, sym, ap, ap₂, _∙_}
-use mathlib.Core.List.{List, [], _∷_, _++_, append-assoc, append-nil}
-use Prim.Native.Nat.{ℕ, zero, suc, _+_, _-_, _/_, _%_, _≤_, _<_}
+use mathlib.Core.List.{List, [], _∷_, _++_, append-assoc}
+use Prim.Native.Nat.{ℕ, zero, suc, _+_, _/_, _%_, _≤_, _<_}
 use native.Mathlib.Numerals.{add-one}
 use native.Mathlib.Omega.{arith}
-use lib.ListN.{length, getD, take, drop, set, length-append, length-drop, drop-of-length-le}
-use lib.Seq.{drop-cons, drop-drop, take-at, drop-at, take-suc, set-at, append-snoc, getD-set-same, drop-set-lt, lt-length-set, length-take-le}
-use borrow.Rule.Slice.PartMut.{putMid}
-use Rattle.words.proofs.Lists.{tailPart, length-cat}
+use lib.ListN.{length, getD, take, drop, set, length-append, length-drop}
+use lib.Seq.{drop-cons, take-suc, set-at, append-snoc, getD-set-same, drop-set-lt, lt-length-set, length-take-le}
+use Rattle.words.proofs.Lists.{length-cat}
 use Rattle.maskwalk_text.specs.Text.{digit, digits, line, lines}
 use Rattle.maskwalk_text.specs.Scan.{written}
 

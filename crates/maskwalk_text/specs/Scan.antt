@@ -1,4 +1,4 @@
--- The same text from an input that comes in parts: what is kept between two parts, and what is printed at the end.
+-- The same text from an input that comes in parts: what is kept between two parts, and what is printed at the end; no passage of document 01.
 -- A buffer of 4,224 bytes holds the 128 of the start and a step byte for each of 4,096 letters; a count of 4,225 stands for more. Assumes nothing.
 use mathlib.Core.Bool.{Bool, true, false, cond}
 use mathlib.Core.List.{List, [], _∷_, _++_}

@@ -1,4 +1,4 @@
--- The promise of the scan: its parts do not matter. Assumes nothing.
+-- The promise of the scan: its parts do not matter; no passage of document 01. Assumes nothing.
 use mathlib.Core.Path.{_≡_}
 use mathlib.Core.Bool.{false}
 use mathlib.Core.List.{List, flatten}
@@ -13,6 +13,7 @@ use Rattle.maskwalk_text.specs.Scan.{isOpen, feeds, report, written}
 unfoldable pub afterParts : List (List ℕ) → List ℕ → List ℕ → ℕ × List ℕ
 afterParts parts held out = let end = feeds parts (Reading 0) held in written (report (end .0) (end .1)) out
 
+-- how an input is cut into parts changes nothing
 pub record Whole : Type 0 where
   -- for every list of parts, it is the text of the whole input, whatever the buffer held before
   pub whole : (parts : List (List ℕ)) (held out : List ℕ) → length held ≡ 4224 → afterParts parts held out ≡ written (textOf (flatten parts)) out

@@ -1,4 +1,4 @@
--- The pass over the message, for sealing and opening at once: what the functions inside this crate promise each other. Assumes nothing.
+-- The pass over the message, for sealing and opening at once: what the functions inside this crate promise each other; no passage of document 01. Assumes nothing.
 use mathlib.Core.Bool.{Bool, cond}
 use mathlib.Core.List.{List}
 use Prim.Native.Nat.{ℕ}

@@ -30,11 +30,19 @@ use Rattle.sealing.specs.Demand2.{Settings, Message, Parcel, Seals, Open
 
 -- ---- the checks pass
 
+is-mode : (mode : ℕ) → (mode ≡ 1) ⊎ (mode ≡ 2) → isMode mode ≡ true
+unfolding isMode
+is-mode mode c = elim c [ inl e ↦ ap isMode e | inr e ↦ ap isMode e ]
+
+are-rounds : (rounds : ℕ) → (rounds ≡ 4) ⊎ (rounds ≡ 6) → isRounds rounds ≡ true
+unfolding isRounds
+are-rounds rounds c = elim c [ inl e ↦ ap isRounds e | inr e ↦ ap isRounds e ]
+
 module _ (mode rounds : ℕ) (key nonce header : List ℕ) (𝓢 : Settings mode rounds key nonce header) where
   no-ground : settings mode rounds key nonce header ≡ Done 0
   unfolding settings
   no-ground =
-      rw (𝓢 .mode-is, 𝓢 .rounds-are, eq-eqb (length key) 32 (𝓢 .key-long), eq-eqb (length nonce) 16 (𝓢 .nonce-long), le-ltb 4096 (length header) (𝓢 .header-short))
+      rw (is-mode mode (𝓢 .mode-is), are-rounds rounds (𝓢 .rounds-are), eq-eqb (length key) 32 (𝓢 .key-long), eq-eqb (length nonce) 16 (𝓢 .nonce-long), le-ltb 4096 (length header) (𝓢 .header-short))
 
   seal-answers : (message out : List ℕ) → length message ≤ 65536 → length message + 32 ≤ length out
       → sealCall mode rounds key nonce header message out

@@ -1,6 +1,5 @@
 -- Demand 2: opening hands back the message of every sealed parcel and refuses every other with 9 (document 01). Assumes nothing.
 use mathlib.Core.Path.{_≡_}
-use mathlib.Core.Bool.{true}
 use mathlib.Core.Logic.{_⊎_}
 use mathlib.Core.List.{List, _++_}
 use Prim.Native.Nat.{ℕ, _+_, _-_, _≤_}
@@ -8,12 +7,12 @@ use lib.ListN.{length, drop}
 use Rattle.words.specs.Sequence.{zeros}
 use Rattle.words.specs.Block.{Bytes}
 use Rattle.answers.specs.declared.Answer.the-variants.{Done, TagDiffers}
-use Rattle.sealing.specs.Sealing.{isMode, isRounds, sealCall, openCall}
+use Rattle.sealing.specs.Sealing.{sealCall, openCall}
 
 -- settings that no ground refuses
 pub record Settings (mode rounds : ℕ) (key nonce header : List ℕ) : Type 0 where
-  pub mode-is : isMode mode ≡ true
-  pub rounds-are : isRounds rounds ≡ true
+  pub mode-is : (mode ≡ 1) ⊎ (mode ≡ 2)
+  pub rounds-are : (rounds ≡ 4) ⊎ (rounds ≡ 6)
   pub key-long : length key ≡ 32
   pub nonce-long : length nonce ≡ 16
   pub header-short : length header ≤ 4096
@@ -51,6 +50,7 @@ module _ (mode rounds : ℕ) (key nonce header : List ℕ) where
       (out : List ℕ) → length parcel - 32 ≤ length out
       → openCall mode rounds key nonce header parcel out ≡ (TagDiffers, zeros (length parcel - 32) ++ drop (length parcel - 32) out)
 
+-- demand 2
 pub record Demand2 : Type 0 where
   -- open of what seal writes hands back that message
   pub hands-back : (mode rounds : ℕ) (key nonce header message : List ℕ) → Settings mode rounds key nonce header → Message message

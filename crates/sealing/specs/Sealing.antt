@@ -14,12 +14,15 @@ use Rattle.answers.specs.declared.Answer.the-variants.{Done, Mode, Rounds, KeyL
 
 -- ---- a mode's tag, ciphertext and message, over a round count and a start block; mode 1 is OPP, 2 is MRO
 
+-- the tag ("OPP" and "MRO" of document 01)
 unfoldable pub tagOf : ℕ → ℕ → List ℕ → List ℕ → List ℕ → List ℕ
 tagOf mode rounds start header message = cond (eqb mode 1) (oppTag rounds start header message) (mroTag rounds start header message)
 
+-- the ciphertext; MRO's comes from the tag
 unfoldable pub cipherOf : ℕ → ℕ → List ℕ → List ℕ → List ℕ → List ℕ
 cipherOf mode rounds start tag message = cond (eqb mode 1) (oppCipher rounds start message) (mroCipher rounds start tag message)
 
+-- the message of a ciphertext; MRO's stream is its own way back
 unfoldable pub plainOf : ℕ → ℕ → List ℕ → List ℕ → List ℕ → List ℕ
 plainOf mode rounds start tag cipher = cond (eqb mode 1) (oppPlain rounds start cipher) (mroCipher rounds start tag cipher)
 

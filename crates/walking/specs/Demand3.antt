@@ -36,6 +36,7 @@ net kind steps = pos (count kind steps) -ℤ pos (count (kind + 3) steps)
 unfoldable pub mask : List ℕ → List ℕ → List ℕ
 mask start steps = walkCall start steps (zeros 128) .1
 
+-- demand 3
 pub record Demand3 : Type 0 where
   -- what walk answers and writes is what jump answers and writes by the list's three net counts, for any output buffer
   pub walk-is-jump : (start steps out : List ℕ) → Start start → Steps steps

@@ -1,4 +1,4 @@
--- Lists made by counting from 0: of single values, of pieces, and a value carried along. Assumes nothing.
+-- Lists made by counting from 0: of single values, of pieces, and a value carried along; no passage of document 01. Assumes nothing.
 use mathlib.Core.List.{List, [], _∷_, _++_}
 use Prim.Native.Nat.{ℕ, zero, suc}
 

@@ -5,7 +5,7 @@ ghost use mathlib.Core.Path.{_≡_};
 ghost use mathlib.Core.List.{_++_};
 ghost use Prim.Native.Nat.{_≤_};
 ghost use lib.ListN.{length, drop};
-ghost use Rattle.words.specs.Block.{blockOf, bytesOf, xorBlock, xorBytes, zeroBlock};
+ghost use Rattle.words.specs.Block.{blockOf, bytesOf, xorBlock, zeroBlock};
 
 // The zero block.
 pub fn zero() -> [u64; 16]
