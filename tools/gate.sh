@@ -38,7 +38,7 @@ part() {
 
 prove() {
     command -v rt >/dev/null || { echo "gate: rt is missing: the Rattle toolchain is needed"; return 2; }
-    rt ci | sed -E '/^(library|logic |crate |note:|fn |enum |struct )/d'
+    rt ci | sed -uE '/^(library|logic |crate |note:|fn |enum |struct )/d'
     return "${PIPESTATUS[0]}"
 }
 
