@@ -28,7 +28,7 @@ test:
 bench: dist
 	@tools/need.sh cargo cargo
 	@tools/need.sh pkg:libsodium-dev libsodium-dev
-	@cd rust && cargo run --offline --release --quiet --package bench -- --docs ../docs
+	@cd rust && cargo run --offline --release --quiet --package bench -- --docs ../docs $(if $(wildcard target/gate.times),--gate ../target/gate.times)
 
 # Every outside check seen to fail on a library with a fault in it.
 planted: tools

@@ -42,6 +42,12 @@ prove() {
     return "${PIPESTATUS[0]}"
 }
 
+# The seconds of each crate's proofs and of its edits, for the page of benchmarks. Two run at a time.
+write_times() {
+    sed -nE 's/^rt: ([a-z_]+) proved \(([0-9]+) s\).*/\1 \2/p; s/^rt: must-fail ([a-z_]+)\/.*; ([0-9]+) s\)$/\1-edits \2/p' "$log" |
+        awk '!($1 in s) { order[++n] = $1 } { s[$1] += $2 } END { for (i = 1; i <= n; i++) print order[i], s[order[i]] }' >target/gate.times
+}
+
 archive() {
     make --no-print-directory dist && echo "1 passed, 0 failed"
 }
@@ -52,6 +58,7 @@ cargo_in_rust() {
 
 make --no-print-directory tools || exit 2
 part "proofs, must-fail edits and programs" prove
+[ -d target ] && write_times
 part "archive" archive
 if [ -f dist/libcalmbaize.a ]; then
     part "header" tools/check-header.sh dist
