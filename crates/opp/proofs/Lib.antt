@@ -2,3 +2,4 @@ pub mod Steps
 pub mod Sums
 pub mod Passes
 pub mod Opened
+pub mod Pairs

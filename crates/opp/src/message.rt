@@ -53,6 +53,26 @@ fn open_block(check: [u64; 16], mask: [u64; 16], rounds: u32, s: &[u8], out: &mu
     xor(check, made)
 }
 
+// Two blocks sealed, the second under the next mask. A turn of two moves the mask's words half as
+// often, and reading the blocks again for the check is cheaper than keeping their words while P runs.
+fn seal_pair(
+    check: [u64; 16],
+    mask: [u64; 16],
+    next: [u64; 16],
+    rounds: u32,
+    s: &[u8],
+    out: &mut [u8],
+) -> [u64; 16]
+    requires { ⌜ (256 ≤ length (now s)) × (256 ≤ length (now out)) ⌝ }
+    ensures { λ _. ⌜ now (out .exit) ≡ bytesOf (under rounds mask (blockOf (now (s .entry)))) ++ (bytesOf (under rounds next (blockOf (drop 128 (now (s .entry))))) ++ drop 256 (now (out .entry))) ⌝ }
+    ensures { λ r. ⌜ r ≡ xorBlock (xorBlock check (blockOf (now (s .entry)))) (blockOf (drop 128 (now (s .entry)))) ⌝ }
+{
+    store(encipher(load(s), mask, rounds), out);
+    store(encipher(load(&s[128..]), next, rounds), &mut out[128..]);
+    let sum = xor(check, load(s));
+    xor(sum, load(&s[128..]))
+}
+
 // The whole blocks sealed, each written at its own offset. The two ways have a loop each, since one
 // loop for both is a fifth slower.
 fn seal_blocks(first: [u64; 16], rounds: u32, s: &[u8], out: &mut [u8]) -> Passed
@@ -64,15 +84,24 @@ fn seal_blocks(first: [u64; 16], rounds: u32, s: &[u8], out: &mut [u8]) -> Passe
     let mut mask = first;
     let count = s.len() / 128;
     let mut i: usize = 0;
-    while i < count {
+    while i + 1 < count {
         let at = 128 * i;
-        let next = seal_block(check, mask, rounds, &s[at..], &mut out[at..]);
-        check = next;
-        let step = alpha(mask);
+        let next = alpha(mask);
+        let sum = seal_pair(check, mask, next, rounds, &s[at..], &mut out[at..]);
+        check = sum;
+        let step = alpha(next);
         mask = step;
-        i += 1;
+        i += 2;
     }
-    Passed { check, mask }
+    if i == count {
+        return Passed { check, mask };
+    }
+    let at = 128 * i;
+    let sum = seal_block(check, mask, rounds, &s[at..], &mut out[at..]);
+    Passed {
+        check: sum,
+        mask: alpha(mask),
+    }
 }
 
 // The whole blocks opened, each written at its own offset.

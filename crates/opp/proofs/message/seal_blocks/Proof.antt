@@ -2,9 +2,10 @@
 use mathlib.Core.Bool.{false}
 use mathlib.Core.Path.{_≡_, refl}
 use mathlib.Core.List.{_++_}
-use Prim.Native.Nat.{_/_, _*_, _-_, _≤_}
+use Prim.Native.Nat.{_/_, _*_, _+_, _-_, _≤_}
 use native.Mathlib.Omega.{arith}
 use lib.ListN.{length, drop}
+use lib.Seq.{drop-drop}
 use denote.Ref.{now}
 use Rattle.words.specs.Sequence.{cat, fold, times}
 use Rattle.words.proofs.Lists.{appended, tailPart, timesed}
@@ -13,6 +14,7 @@ use Rattle.blockplan.specs.Plan.{whole, blockAt, xorOver}
 use Rattle.blockplan.proofs.Plans.{summed}
 use Rattle.opp.specs.Pass.{crossed, crossedAt, bytesAt, plainAt}
 use Rattle.opp.proofs.Passes.{length-bytesAt}
+use Rattle.opp.proofs.Pairs.{appended-two, summed-two, timesed-two}
 use borrow.Author.Needs.{needs}
 use Rattle.opp.proofs.message.seal_blocks.Statement.{statement}
 use Rattle.opp.proofs.message.seal_blocks.Tie as tie
@@ -32,8 +34,84 @@ loop-holds : tie.Need-loop-holds Inv-loop μ-loop
 unfolding cat xorOver fold times
 loop-holds c = (search needs, (refl, (refl, (refl, (c .zero .ensures, refl)))))
 
+add-loop : tie.Need-add-loop Inv-loop μ-loop
+add-loop c = search needs
+
 mul-at : tie.Need-mul-at Inv-loop μ-loop
 mul-at c = search needs
+
+alpha-requires : tie.Need-alpha-requires Inv-loop μ-loop
+alpha-requires c κs = search needs
+
+sub-seal-pair : tie.Need-sub-seal-pair Inv-loop μ-loop
+sub-seal-pair c = search needs
+
+part-seal-pair-start : tie.Need-part-seal-pair-start Inv-loop μ-loop
+part-seal-pair-start c = search needs
+
+part-seal-pair-end : tie.Need-part-seal-pair-end Inv-loop μ-loop
+part-seal-pair-end c = search needs
+
+sub-seal-pair-2 : tie.Need-sub-seal-pair-2 Inv-loop μ-loop
+sub-seal-pair-2 c = search needs
+
+part-seal-pair-start-2 : tie.Need-part-seal-pair-start-2 Inv-loop μ-loop
+part-seal-pair-start-2 c = search needs
+
+part-seal-pair-end-2 : tie.Need-part-seal-pair-end-2 Inv-loop μ-loop
+part-seal-pair-end-2 c = search needs
+
+seal-pair-requires : tie.Need-seal-pair-requires Inv-loop μ-loop
+seal-pair-requires c κs = search needs
+
+alpha-requires-2 : tie.Need-alpha-requires-2 Inv-loop μ-loop
+alpha-requires-2 c κs = search needs
+
+add-i : tie.Need-add-i Inv-loop μ-loop
+add-i c = search needs
+
+loop-less : tie.Need-loop-less Inv-loop μ-loop
+loop-less c = search needs
+
+loop-again : tie.Need-loop-again Inv-loop μ-loop
+unfolding bytesAt plainAt crossedAt crossed blockAt
+loop-again c =
+    let at = c .before .before .before .before .before .before .before .before .loop in
+    let a = c .before .before .before .before .before .before .before .before .before .before .before .before .args in
+    let next = timesed alpha _ (at .i) (at .mask) _ (at .inv .1 .1 .1 .1 .1) (c .before .before .before .before .before .before .alpha .ensures) in
+    let two = c .before .before .before .seal-pair in
+    let far : 128 * at .i + 128 ≡ 128 * (at .i + 1) = omega arith in
+    let here = rw (tailPart (128 * at .i) (now (a .s)), drop-drop, far, next, at .inv .1 .1 .1 .1 .1) at (two .ensures) in (
+      omega arith,
+      (
+        refl,
+        (
+          omega (arith, c .before .before .out .given .1),
+          (
+            appended-two (at .i) _ 128 _ _ (two .last .1 .1 .1 .1 .1 .0) (length-bytesAt false (a .rounds) (a .first) (now (a .s))) (at .inv .1 .1 .1 .0) (here .0),
+            (
+              summed-two (at .i) _ (at .check) _ (at .inv .1 .1 .1 .1 .0) (here .1),
+              timesed-two (at .i) alpha _ (at .mask) _ _ (at .inv .1 .1 .1 .1 .1) (c .before .before .before .before .before .before .alpha .ensures) (c .alpha2 .ensures),
+            ),
+          ),
+        ),
+      ),
+    )
+
+same-length : tie.Need-same-length Inv-loop μ-loop
+same-length c = search needs
+
+returns : tie.Need-returns Inv-loop μ-loop
+unfolding whole
+returns c =
+    let at = c .before .before .loop in
+    let s = now (c .before .before .before .before .before .before .args .s) in
+    let e : at .i ≡ length s / 128 = omega arith in
+    let done = rw e at (at .inv .1 .1 .1) in
+    done
+
+mul-at-2 : tie.Need-mul-at-2 Inv-loop μ-loop
+mul-at-2 c = search needs
 
 sub-seal-block : tie.Need-sub-seal-block Inv-loop μ-loop
 sub-seal-block c = search needs
@@ -56,49 +134,24 @@ part-seal-block-end-2 c = search needs
 seal-block-requires : tie.Need-seal-block-requires Inv-loop μ-loop
 seal-block-requires c κs = search needs
 
-alpha-requires : tie.Need-alpha-requires Inv-loop μ-loop
-alpha-requires c κs = search needs
+alpha-requires-3 : tie.Need-alpha-requires-3 Inv-loop μ-loop
+alpha-requires-3 c κs = search needs
 
-add-i : tie.Need-add-i Inv-loop μ-loop
-add-i c = search needs
+same-length-2 : tie.Need-same-length-2 Inv-loop μ-loop
+same-length-2 c = search needs
 
-loop-less : tie.Need-loop-less Inv-loop μ-loop
-loop-less c = search needs
-
-loop-again : tie.Need-loop-again Inv-loop μ-loop
-unfolding bytesAt plainAt crossedAt crossed blockAt
-loop-again c =
-    let at = c .before .before .before .before .before .before .before .loop in
-    let a = c .before .before .before .before .before .before .before .before .before .before .before .args in
+returns-2 : tie.Need-returns-2 Inv-loop μ-loop
+unfolding whole bytesAt plainAt crossedAt crossed blockAt
+returns-2 c =
+    let at = c .before .before .before .before .before .before .before .before .loop in
+    let a = c .before .before .before .before .before .before .before .before .before .before .before .before .args in
     let one = c .before .before .before .seal-block in
-    let here = rw (tailPart (128 * at .i) (now (a .s)), at .inv .1 .1 .1 .1 .1) at (one .ensures) in (
-      omega arith,
-      (
-        refl,
-        (
-          omega (arith, c .before .before .out .given .1),
-          (
-            appended _ 128 (at .i) _ _ (one .last .1 .1 .1 .1 .0) (length-bytesAt false (a .rounds) (a .first) (now (a .s))) (omega arith) (at .inv .1 .1 .1 .0) (here .0),
-            (
-              summed _ (at .i) (at .check) _ (at .inv .1 .1 .1 .1 .0) (here .1),
-              timesed alpha _ (at .i) (at .mask) _ (at .inv .1 .1 .1 .1 .1) (c .alpha .ensures),
-            ),
-          ),
-        ),
-      ),
-    )
-
-same-length : tie.Need-same-length Inv-loop μ-loop
-same-length c = search needs
-
-returns : tie.Need-returns Inv-loop μ-loop
-unfolding whole
-returns c =
-    let at = c .before .loop in
-    let s = now (c .before .before .before .before .before .args .s) in
-    let e : at .i ≡ length s / 128 = omega arith in
-    let done = rw e at (at .inv .1 .1 .1) in
-    done
+    let here = rw (tailPart (128 * at .i) (now (a .s)), at .inv .1 .1 .1 .1 .1) at (one .ensures) in
+    let e : at .i + 1 ≡ length (now (a .s)) / 128 = omega arith in
+    let written = rw e at (appended _ 128 (at .i) _ _ (one .last .1 .1 .1 .1 .0) (length-bytesAt false (a .rounds) (a .first) (now (a .s))) (omega arith) (at .inv .1 .1 .1 .0) (here .0)) in
+    let check = rw e at (summed _ (at .i) (at .check) _ (at .inv .1 .1 .1 .1 .0) (here .1)) in
+    let mask = rw e at (timesed alpha _ (at .i) (at .mask) _ (at .inv .1 .1 .1 .1 .1) (c .alpha3 .ensures)) in
+    (written, (check, mask))
 
 pub seal-blocks-spec : {M : Type 1} → statement M
 seal-blocks-spec =
@@ -108,7 +161,23 @@ seal-blocks-spec =
     μ-loop
     zero-requires
     loop-holds
+    add-loop
     mul-at
+    alpha-requires
+    sub-seal-pair
+    part-seal-pair-start
+    part-seal-pair-end
+    sub-seal-pair-2
+    part-seal-pair-start-2
+    part-seal-pair-end-2
+    seal-pair-requires
+    alpha-requires-2
+    add-i
+    loop-less
+    loop-again
+    same-length
+    returns
+    mul-at-2
     sub-seal-block
     part-seal-block-start
     part-seal-block-end
@@ -116,9 +185,6 @@ seal-blocks-spec =
     part-seal-block-start-2
     part-seal-block-end-2
     seal-block-requires
-    alpha-requires
-    add-i
-    loop-less
-    loop-again
-    same-length
-    returns)
+    alpha-requires-3
+    same-length-2
+    returns-2)
