@@ -2,4 +2,3 @@ pub mod Steps
 pub mod Sums
 pub mod Passes
 pub mod Opened
-pub mod Pairs

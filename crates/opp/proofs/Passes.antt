@@ -1,5 +1,5 @@
 -- The pass over the message: what it writes and checks, block by block and of the leftover. Assumes nothing.
-use mathlib.Core.Path.{_≡_, refl, sym, ap, _∙_}
+use mathlib.Core.Path.{_≡_, refl, sym, ap, ap₂, _∙_}
 use mathlib.Core.Bool.{Bool, true, false, cond}
 use mathlib.Core.List.{List, _++_, append-nil, append-assoc}
 use Prim.Native.Nat.{ℕ, _+_, _-_, _*_, _<_}
@@ -8,8 +8,7 @@ use lib.ListN.{length, take, drop}
 use borrow.Rule.Slice.PartMut.{putMid}
 use Rattle.words.specs.Sequence.{cat, tab, times}
 use Rattle.words.specs.Block.{Block, Bytes, bytesOf, xorBlock, xorBytes, zeroBlock}
-use Rattle.words.proofs.Lists.{length-cat, cat-ext, fronted}
-use Rattle.words.proofs.Blocks.{length-bytesOf}
+use Rattle.words.proofs.Lists.{cat-ext, fronted}
 use Rattle.masks.specs.Steps.{alpha, beta, gamma}
 use Rattle.mem.specs.Mem.{maskAt, under, encipher, decipher}
 use Rattle.mem.proofs.Laws.{mask-alpha, decipher-block}
@@ -19,14 +18,9 @@ use Rattle.blockplan.proofs.Ciphered.{whole-le, length-left, length-ciphered, w
 use Rattle.opp.specs.Opp.{padded, sealAt, openAt, oppStream, oppCipher, oppPlain, oppSum, oppCheck, oppTag}
 use Rattle.opp.proofs.Steps.{beta-on}
 use Rattle.opp.proofs.Sums.{no-left, some-left, left-none}
-use Rattle.opp.specs.Pass.{crossed, crossedAt, bytesAt, plainAt, passed, plain}
-
-pub length-bytesAt : (opening : Bool) (rounds : ℕ) (first s : List ℕ) (i : ℕ) → length (bytesAt opening rounds first s i) ≡ 128
-unfolding bytesAt
-length-bytesAt opening rounds first s i = length-bytesOf (crossedAt opening rounds first s i)
-
-pub front-length : (opening : Bool) (rounds : ℕ) (first s : List ℕ) → length (cat (bytesAt opening rounds first s) (whole s)) ≡ 128 * whole s
-front-length opening rounds first s = length-cat (bytesAt opening rounds first s) 128 (whole s) (length-bytesAt opening rounds first s)
+use Rattle.opp_blocks.specs.Pass.{crossed, crossedAt, bytesAt, plainAt}
+use Rattle.opp_blocks.proofs.Passes.{front-length}
+use Rattle.opp.specs.Pass.{passed, plain}
 
 module _ (rounds : ℕ) (start s : List ℕ) (l : Block start) where
   -- masks stepped on from gamma of the start are those of E(i, 0, 1) and D(i, 0, 1)
@@ -139,7 +133,10 @@ module _ (rounds : ℕ) (start s : List ℕ) (l : Block start) where
         → check ≡ oppCheck (plain opening rounds start s) → block ≡ xorBlock (oppSum rounds start header) (under rounds (beta (beta mask)) check)
         → tagBytes block ≡ oppTag rounds start header (plain opening rounds start s)
     unfolding oppTag encipher
-    tag-is opening header block mask check m c e = rw (e, m, c, whole-plain opening, hasLeft-plain opening, two-on (hasLeft s))
+    tag-is opening header block mask check m c e =
+        let at : beta (beta mask) ≡ maskAt start (whole (plain opening rounds start s)) (cond (hasLeft (plain opening rounds start s)) 3 2) 1 =
+        rw (m, whole-plain opening, hasLeft-plain opening) (two-on (hasLeft s)) in
+        ap tagBytes (e ∙ ap₂ (λ (n b : List ℕ). xorBlock (oppSum rounds start header) (under rounds n b)) at c)
 
 pub length-passed : (opening : Bool) (rounds : ℕ) (start s : List ℕ) → length (passed opening rounds start s) ≡ length s
 unfolding passed oppPlain oppCipher

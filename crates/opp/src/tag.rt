@@ -1,9 +1,9 @@
 // The sum over the header, and the block whose first 32 bytes are the tag.
-use crate::message::Passed;
 use blockplan::absorb::absorb;
 use blockplan::leftover::padded;
 use masks::steps::beta;
 use mem::cipher::encipher;
+use opp_blocks::Passed;
 use words::block::xor;
 ghost use mathlib.Core.Path.{_≡_};
 ghost use Rattle.words.specs.Block.{xorBlock};

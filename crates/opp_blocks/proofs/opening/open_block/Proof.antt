@@ -1,7 +1,7 @@
 -- D of the block, written and summed. Assumes nothing.
 use borrow.Author.Needs.{needs}
-use Rattle.opp.proofs.message.open_block.Statement.{statement}
-use Rattle.opp.proofs.message.open_block.Tie as tie
+use Rattle.opp_blocks.proofs.opening.open_block.Statement.{statement}
+use Rattle.opp_blocks.proofs.opening.open_block.Tie as tie
 
 load-requires : tie.Need-load-requires
 load-requires c κs = search needs

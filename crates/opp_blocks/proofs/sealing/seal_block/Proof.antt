@@ -1,7 +1,7 @@
 -- The block before it is lost, and E of it. Assumes nothing.
 use borrow.Author.Needs.{needs}
-use Rattle.opp.proofs.message.seal_block.Statement.{statement}
-use Rattle.opp.proofs.message.seal_block.Tie as tie
+use Rattle.opp_blocks.proofs.sealing.seal_block.Statement.{statement}
+use Rattle.opp_blocks.proofs.sealing.seal_block.Tie as tie
 
 load-requires : tie.Need-load-requires
 load-requires c κs = search needs

@@ -1,7 +1,7 @@
 -- One way or the other. Assumes nothing.
 use borrow.Author.Needs.{needs}
-use Rattle.opp.proofs.message.pass_blocks.Statement.{statement}
-use Rattle.opp.proofs.message.pass_blocks.Tie as tie
+use Rattle.opp_blocks.proofs.pass_blocks.Statement.{statement}
+use Rattle.opp_blocks.proofs.pass_blocks.Tie as tie
 
 open-blocks-requires : tie.Need-open-blocks-requires
 open-blocks-requires c κs = search needs

@@ -6,8 +6,8 @@ use Rattle.words.proofs.Lists.{fronted, tailPart}
 use Rattle.words.proofs.Blocks.{length-bytesOf}
 use Rattle.mem.specs.Mem.{under}
 use borrow.Author.Needs.{needs}
-use Rattle.opp.proofs.message.seal_pair.Statement.{statement}
-use Rattle.opp.proofs.message.seal_pair.Tie as tie
+use Rattle.opp_blocks.proofs.sealing.seal_pair.Statement.{statement}
+use Rattle.opp_blocks.proofs.sealing.seal_pair.Tie as tie
 
 load-requires : tie.Need-load-requires
 load-requires c κs = search needs
