@@ -10,14 +10,15 @@ use native.Mathlib.Decide.{ℕ-discrete}
 use lib.Dec.{eqb}
 use lib.Bits.{bitOr, bitXor, bitAnd, xor-self, and-mask, and-zero-r, and-le-r, or-add-and}
 use lib.ListN.{length, getD, take, drop, take-append-drop}
-use lib.Seq.{take-suc, length-take-le, getD-append-add, getD-drop, drop-at}
+use lib.Seq.{take-suc, take-all, length-take-le, getD-append-add, getD-drop, drop-at}
 use borrow.Author.Tests.{eq-eqb, ne-eqb, eqb-true}
 use Rattle.words.specs.Sequence.{fold, tab, zeros}
-use Rattle.words.specs.Block.{Block, xorBlock, zeroBlock}
+use Rattle.words.specs.Block.{Block, bytesOf, xorBlock, zeroBlock}
 use Rattle.words.proofs.Xor.{xor-cancel-r}
 use Rattle.words.proofs.Lists.{length-tab, front}
-use Rattle.words.proofs.Blocks.{xor-block, zero-block}
-use Rattle.blockplan.specs.Plan.{whole, left, blockAt, xorOver, same, opened}
+use Rattle.words.proofs.Blocks.{xor-block, zero-block, length-bytesOf}
+use Rattle.blockplan.specs.Compare.{differing}
+use Rattle.blockplan.specs.Plan.{whole, left, blockAt, xorOver, tagBytes, same, opened}
 
 -- ---- sums
 
@@ -118,12 +119,20 @@ same-snoc [] (c ∷ b) x y e = absurd (omega arith)
 same-snoc (c ∷ a) [] x y e = absurd (omega arith)
 same-snoc (c ∷ a) (d ∷ b) x y e = rw (same-snoc a b x y (omega arith)) (sym (and-assoc (eqb c d) (same a b) (eqb x y)))
 
--- one more byte of each
-pub compared : (a b : List ℕ) (i d : ℕ) → i < length a → i < length b → eqb d 0 ≡ same (take i a) (take i b)
-    → eqb (bitOr d (bitXor (getD a i 0) (getD b i 0))) 0 ≡ same (take (i + 1) a) (take (i + 1) b)
-compared a b i d ha hb e =
-    or-none d (getD a i 0) (getD b i 0) ∙ ap (λ (t : Bool). t && eqb (getD a i 0) (getD b i 0)) e
-    ∙ sym (rw (add-one, take-suc a i 0 ha, take-suc b i 0 hb) (same-snoc (take i a) (take i b) (getD a i 0) (getD b i 0) (length-take-le i a (omega arith) ∙ sym (length-take-le i b (omega arith)))))
+-- no bit differs exactly where the first bytes agree
+compared : (a b : List ℕ) (n : ℕ) → n ≤ length a → n ≤ length b → eqb (differing a b n) 0 ≡ same (take n a) (take n b)
+unfolding differing same
+compared a b zero ha hb = refl
+compared a b (suc n) ha hb =
+    or-none (differing a b n) (getD a n 0) (getD b n 0) ∙ ap (λ (t : Bool). t && eqb (getD a n 0) (getD b n 0)) (compared a b n (omega arith) (omega arith))
+    ∙ sym (rw (take-suc a n 0 ha, take-suc b n 0 hb) (same-snoc (take n a) (take n b) (getD a n 0) (getD b n 0) (length-take-le n a (omega arith) ∙ sym (length-take-le n b (omega arith)))))
+
+-- a tag is right exactly where no bit of it differs
+pub judged : (b t : List ℕ) (d : ℕ) → length t ≡ 32 → d ≡ differing (bytesOf b) t 32 → eqb d 0 ≡ same (tagBytes b) t
+unfolding tagBytes
+judged b t d e q =
+    ap (λ (x : ℕ). eqb x 0) q ∙ compared (bytesOf b) t 32 (rw (length-bytesOf b) (omega arith)) (omega arith)
+    ∙ ap (same (take 32 (bytesOf b))) (take-all 32 t (omega arith))
 
 pub same-true : (a b : List ℕ) → same a b ≡ true → a ≡ b
 unfolding same

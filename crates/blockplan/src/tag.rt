@@ -8,7 +8,9 @@ ghost use Prim.Native.Nat.{_≤_};
 ghost use lib.Dec.{eqb};
 ghost use lib.ListN.{length, drop, take};
 ghost use Rattle.words.specs.Sequence.{zeros};
-ghost use Rattle.blockplan.specs.Plan.{tagBytes, same};
+ghost use Rattle.words.specs.Block.{bytesOf};
+ghost use Rattle.blockplan.specs.Compare.{differing};
+ghost use Rattle.blockplan.specs.Plan.{tagBytes};
 
 // The first 32 bytes of a block, to the front of the output.
 pub fn store_tag(b: [u64; 16], out: &mut [u8])
@@ -23,10 +25,11 @@ pub fn store_tag(b: [u64; 16], out: &mut [u8])
     }
 }
 
-// Zero where the tag is right: all 32 bytes are looked at, whether or not an early one differs.
+// The bits in which the tag is wrong, so 0 where it is right: all 32 bytes are looked at, whether or
+// not an early one differs.
 pub fn difference(b: [u64; 16], tag: &[u8]) -> u8
     requires { ⌜ length (now tag) ≡ 32 ⌝ }
-    ensures { λ r. ⌜ eqb r 0 ≡ same (tagBytes b) (now (tag .entry)) ⌝ }
+    ensures { λ r. ⌜ r ≡ differing (bytesOf b) (now (tag .entry)) 32 ⌝ }
 {
     let mut bytes = [0u8; 128];
     store(b, &mut bytes);

@@ -1,13 +1,13 @@
 -- Laws of the tag's bytes and of the four words that they stand for. Assumes nothing.
 use mathlib.Core.Path.{_≡_, sym, ap, _∙_, subst}
 use mathlib.Core.List.{List, [], _∷_, _++_, append-nil}
-use Prim.Native.Nat.{ℕ, _*_, _<_}
+use Prim.Native.Nat.{ℕ, _*_, _<_, _≤_}
 use native.Mathlib.Omega.{arith}
-use lib.Dec.{lit<}
-use lib.ListN.{length, getD, take, drop, length-take, length-drop, List·getD-append}
+use lib.Dec.{T, leb, lit<, lit≤}
+use lib.ListN.{length, getD, take, drop, length-take, length-drop, List·getD-append, drop-of-length-le}
 use lib.Seq.{take-all}
 use Rattle.words.specs.Sequence.{tab, cat, zeros}
-use Rattle.words.specs.Block.{Block, Bytes, le, lowBytes, wordAt, wordBytes, bytesOf}
+use Rattle.words.specs.Block.{Block, Bytes, le, lowBytes, wordAt, wordBytes, blockOf, bytesOf}
 use Rattle.words.proofs.Lists.{length-tab, getD-tab, length-cat, cat-ext, piece, pieces, take-cat}
 use Rattle.words.proofs.Blocks.{length-wordBytes, le-lowBytes, lowBytes-le, bytes-take, bytes-drop, bytes-bytesOf}
 use Rattle.blockplan.specs.Plan.{tagBytes}
@@ -53,3 +53,18 @@ tag-words t rest h e =
         ap (lowBytes 8) (List·getD-append (tab (wordAt t) 4) rest 0 i short ∙ getD-tab (wordAt t) 4 i p)
         ∙ ap (λ (k : ℕ). lowBytes k (le part)) (sym eight)
         ∙ lowBytes-le part (bytes-take 8 (drop (8 * i) t) (bytes-drop (8 * i) t h))
+
+module _ (t : List ℕ) (e : length t ≡ 32) where
+  no-word : (i : ℕ) → T (leb 4 i) → wordAt t i ≡ 0
+  unfolding wordAt le
+  no-word i p = let far : 4 ≤ i = lit≤ p in ap (λ (l : List ℕ). le (take 8 l)) (drop-of-length-le t {i = 8 * i} (omega arith))
+
+  -- the block that 32 bytes stand for: their four words, and zeros
+  pub block-of-tag : blockOf t ≡ tab (wordAt t) 4 ++ zeros 12
+  unfolding blockOf tab zeros
+  block-of-tag =
+      rw (no-word 4 tt, no-word 5 tt, no-word 6 tt, no-word 7 tt, no-word 8 tt, no-word 9 tt, no-word 10 tt, no-word 11 tt, no-word 12 tt, no-word 13 tt, no-word 14 tt, no-word 15 tt)
+
+-- 32 bytes come back from the block that they stand for
+pub tag-of-block : (t : List ℕ) → Bytes t → length t ≡ 32 → tagBytes (blockOf t) ≡ t
+tag-of-block t h e = ap tagBytes (block-of-tag t e) ∙ tag-words t (zeros 12) h e

@@ -10,14 +10,15 @@ ghost use mathlib.Core.Path.{_≡_};
 ghost use mathlib.Core.List.{_++_};
 ghost use Prim.Native.Nat.{_≤_};
 ghost use lib.ListN.{length, drop};
+ghost use Rattle.words.specs.Block.{blockOf};
 ghost use Rattle.mem.specs.Mem.{under};
 ghost use Rattle.blockplan.specs.Plan.{tagBytes};
 ghost use Rattle.mro.specs.Mro.{counter, mroCipher};
 
-// The tag's 32 bytes as the first four words of a block.
+// The block that the tag's 32 bytes stand for: four words, and zeros.
 pub fn load_tag(tag: &[u8]) -> [u64; 16]
     requires { ⌜ length (now tag) ≡ 32 ⌝ }
-    ensures { λ r. ⌜ tagBytes r ≡ now (tag .entry) ⌝ }
+    ensures { λ r. ⌜ r ≡ blockOf (now (tag .entry)) ⌝ }
 {
     let t0 = load_word(tag);
     let t1 = load_word(&tag[8..]);

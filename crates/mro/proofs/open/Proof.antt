@@ -1,17 +1,20 @@
 -- The message from the parcel's tag, the tag from the message, and what their comparison leaves. Assumes nothing.
-use mathlib.Core.Path.{_≡_, ap, ap₂, _∙_}
-use mathlib.Core.List.{_++_}
-use Prim.Native.Nat.{_-_}
+use mathlib.Core.Path.{_≡_, ap, _∙_}
+use mathlib.Core.List.{List, _++_}
+use Prim.Native.Nat.{ℕ, _-_}
 use native.Mathlib.Omega.{arith}
 use lib.Dec.{eqb}
 use lib.ListN.{length, take, drop, length-drop, length-take}
 use lib.Seq.{length-take-le, take-at}
 use denote.Ref.{now}
+use Rattle.words.specs.Block.{Bytes}
 use Rattle.words.proofs.Lists.{tailPart}
+use Rattle.words.proofs.Blocks.{bytes-drop}
 use Rattle.blockplan.specs.Plan.{tagBytes, same, cipherPart, tagPart}
 use Rattle.mro.specs.Mro.{mroTag, mroCipher}
-use Rattle.blockplan.proofs.Plans.{opened-as}
+use Rattle.blockplan.proofs.Plans.{judged, opened-as}
 use Rattle.mro.proofs.Opened.{length-mroCipher}
+use Rattle.mro.proofs.Tags.{tag-of-block}
 use borrow.Author.Needs.{needs}
 use Rattle.mro.proofs.open.Statement.{statement}
 use Rattle.mro.proofs.open.Tie as tie
@@ -77,7 +80,10 @@ returns c =
     let stream = c .before .before .before .before .before .before .before .before .before .before .xor-stream in
     let out = stream .last .1 .1 .1 .1 .0 in
     let message = mroCipher rounds first (tagPart parcel) (cipherPart parcel) in
-    let tag : tagBytes (load .result) ≡ tagPart parcel = load .ensures ∙ tailPart n parcel in
+    let all : Bytes parcel = record { bytes = λ i. c .before .before .before .before .before .before .before .before .before .before .before .before .before .before .before .before .shared-slice-known2 .given i .fits } in
+    let part = rw (tailPart n parcel) at (load .ensures) in
+    let exact : length (tagPart parcel) ≡ 32 = simp length-drop (omega arith) in
+    let tag : tagBytes (load .result) ≡ tagPart parcel = ap tagBytes part ∙ tag-of-block (tagPart parcel) (bytes-drop n parcel all) exact in
     let short : length (take n parcel) ≡ n = length-take-le n parcel (omega arith) in
     let long : length message ≡ n = length-mroCipher rounds first (tagPart parcel) (cipherPart parcel) ∙ short in
     let streamed : out ≡ message ++ drop n old = rw (tag, short) at (stream .ensures) in
@@ -85,7 +91,7 @@ returns c =
     let tag-block = c .before .before .before .before .before .before .tag-block in
     let expected : tagBytes (tag-block .result) ≡ mroTag rounds first (now (start .args .header)) message = rw (tag-block .ensures, front) in
     opened-as n message (mroTag rounds first (now (start .args .header)) message) (tagPart parcel) old out (c .before .before .keep .last .0) (eqb (c .before .before .before .before .difference .result) 0) long streamed
-    (c .before .before .before .before .difference .ensures ∙ ap₂ same expected (tailPart n parcel))
+    (judged _ (tagPart parcel) _ exact (rw (tailPart n parcel) at (c .before .before .before .before .difference .ensures)) ∙ ap (λ (x : List ℕ). same x (tagPart parcel)) expected)
     (c .before .before .keep .ensures)
 
 pub open-spec : {M : Type 1} → statement M

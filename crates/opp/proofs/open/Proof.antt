@@ -4,7 +4,7 @@ use mathlib.Core.Bool.{true}
 use Prim.Native.Nat.{_-_}
 use native.Mathlib.Omega.{arith}
 use lib.Dec.{eqb}
-use lib.ListN.{length, length-take}
+use lib.ListN.{length, length-drop, length-take}
 use lib.Seq.{length-take-le}
 use denote.Ref.{now}
 use Rattle.words.specs.Block.{Block, Bytes}
@@ -14,7 +14,7 @@ use Rattle.masks.proofs.Arrays.{array-block}
 use Rattle.blockplan.specs.Plan.{cipherPart, tagPart}
 use Rattle.opp.specs.Opp.{oppPlain}
 use Rattle.opp.specs.Pass.{passed, plain}
-use Rattle.blockplan.proofs.Plans.{opened-as}
+use Rattle.blockplan.proofs.Plans.{judged, opened-as}
 use Rattle.opp.proofs.Passes.{tag-is, length-passed}
 use borrow.Author.Needs.{needs}
 use Rattle.opp.proofs.open.Statement.{statement}
@@ -62,7 +62,9 @@ returns c =
     let bytes : Bytes s = bytes-take n (now (a .parcel)) all in
     let pass = c .before .before .before .before .before .before .before .before .before .pass .ensures in
     let tag = tag-is (a .rounds) (a .start) s block bytes true (now (a .header)) _ _ _ (pass .1 .1) (pass .1 .0) (c .before .before .before .before .before .before .tag-block .ensures) in
-    let right = rw (tailPart n (now (a .parcel)), tag) at (c .before .before .before .before .difference .ensures) in
+    let exact : length (tagPart (now (a .parcel))) ≡ 32 = simp length-drop (omega arith) in
+    let compared = rw (tailPart n (now (a .parcel))) at (c .before .before .before .before .difference .ensures) in
+    let right = rw tag at (judged _ (tagPart (now (a .parcel))) _ exact compared) in
     let long : length s ≡ n = length-take-le n (now (a .parcel)) (omega arith) in
     opened-as n (oppPlain (a .rounds) (a .start) s) _ (tagPart (now (a .parcel))) (now (a .out)) _ _ (eqb (c .before .before .before .before .difference .result) 0)
     (length-passed true (a .rounds) (a .start) s ∙ long) (rw long at (pass .0)) right (c .before .before .keep .ensures)

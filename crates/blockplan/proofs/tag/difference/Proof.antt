@@ -1,22 +1,18 @@
--- The loop's invariant: no difference so far, exactly where the first i bytes agree. Assumes nothing.
-use mathlib.Core.Path.{_≡_, refl, sym, ap, _∙_}
-use mathlib.Core.List.{List, [], _∷_, _++_, append-nil}
-use Prim.Native.Nat.{ℕ, _+_, _*_, _-_, _≤_, _<_}
+-- The loop's invariant: the bits in which the first i bytes differ. Assumes nothing.
+use mathlib.Core.Path.{_≡_, refl, _∙_}
+use mathlib.Core.List.{append-nil}
+use Prim.Native.Nat.{_-_, _≤_}
+use native.Mathlib.Numerals.{add-one}
 use native.Mathlib.Omega.{arith}
-use lib.ListN.{length, getD, take, drop, set, length-set, length-drop}
-use denote.Ref.{now}
-use mathlib.Core.Bool.{_&&_}
-use lib.Dec.{eqb}
-use lib.Seq.{take-all}
+use lib.ListN.{length}
 use Rattle.words.specs.Block.{bytesOf}
-use Rattle.blockplan.proofs.Plans.{compared}
-use Rattle.blockplan.specs.Plan.{tagBytes, same}
+use Rattle.blockplan.specs.Compare.{differing}
 use borrow.Author.Needs.{needs}
 use Rattle.blockplan.proofs.tag.difference.Statement.{statement}
 use Rattle.blockplan.proofs.tag.difference.Tie as tie
 
 abbrev Inv-loop : tie.InvT-loop
-Inv-loop tag bytes differ₀ i₀ differ i = (i ≤ 32) × ((length bytes ≡ 128) × (eqb differ 0 ≡ same (take i bytes) (take i tag)))
+Inv-loop tag bytes differ₀ i₀ differ i = (i ≤ 32) × ((length bytes ≡ 128) × (differ ≡ differing bytes tag i))
 
 abbrev μ-loop : tie.MeasureT-loop
 μ-loop tag bytes differ₀ i₀ differ i = 32 - i
@@ -28,7 +24,7 @@ store-requires : tie.Need-store-requires Inv-loop μ-loop
 store-requires c κs = search needs
 
 loop-holds : tie.Need-loop-holds Inv-loop μ-loop
-unfolding same
+unfolding differing
 loop-holds c = (search needs, (c .before .store .kept .1 .0, refl))
 
 array-read-differ : tie.Need-array-read-differ Inv-loop μ-loop
@@ -44,18 +40,19 @@ loop-less : tie.Need-loop-less Inv-loop μ-loop
 loop-less c = search needs
 
 loop-again : tie.Need-loop-again Inv-loop μ-loop
+unfolding differing
 loop-again c =
     let at = c .before .before .loop in
-    (omega arith, (at .inv .1 .0, compared _ _ (at .i) (at .differ) (omega arith) (omega arith) (at .inv .1 .1)))
+    (omega arith, (at .inv .1 .0, rw (add-one, at .inv .1 .1)))
 
 returns : tie.Need-returns Inv-loop μ-loop
-unfolding tagBytes
 returns c =
     let at = c .before .loop in
     let start = c .before .before .before .before .before .before in
     let e : at .i ≡ 32 = omega arith in
     let bytes : c .before .before .before .store .last .1 .0 ≡ bytesOf (start .args .b) = c .before .before .before .store .ensures ∙ append-nil (bytesOf (start .args .b)) in
-    rw (e, bytes, take-all 32 (now (start .args .tag)) (omega arith)) at (at .inv .1 .1)
+    let done = rw (e, bytes) at (at .inv .1 .1) in
+    done
 
 pub difference-spec : {M : Type 1} → statement M
 difference-spec =

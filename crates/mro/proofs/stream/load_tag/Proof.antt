@@ -1,8 +1,9 @@
 -- Four words loaded, and zeros behind them. Assumes nothing.
+use mathlib.Core.Path.{sym}
 use Rattle.words.specs.Sequence.{tab, zeros}
 use Rattle.words.specs.Block.{wordAt}
 use Rattle.words.proofs.Lists.{tailPart}
-use Rattle.mro.proofs.Tags.{tag-words}
+use Rattle.mro.proofs.Tags.{block-of-tag}
 use denote.Ref.{now}
 use borrow.Author.Needs.{needs}
 use Rattle.mro.proofs.stream.load_tag.Statement.{statement}
@@ -61,7 +62,7 @@ returns c =
       tailPart 16 t,
       tailPart 24 t,
     )
-    (tag-words t (zeros 12) (record { bytes = λ i. entry .shared-slice-known .given i .fits }) (entry .before .pre))
+    (sym (block-of-tag t (entry .before .pre)))
 
 pub load-tag-spec : {M : Type 1} → statement M
 load-tag-spec =
