@@ -1,11 +1,11 @@
 -- Laws of ciphered bytes: they keep their length, blocks and leftover can be read off, and what undoes each block undoes the whole. Assumes nothing.
 use mathlib.Core.Path.{_≡_, refl, sym, ap, ap₂, _∙_, subst}
-use mathlib.Core.List.{List, [], _∷_, _++_, append-nil}
+use mathlib.Core.List.{List, _++_}
 use Prim.Native.Nat.{ℕ, zero, suc, _+_, _-_, _*_, _/_, _≤_, _<_}
 use native.Mathlib.Omega.{arith}
 use lib.Dec.{ltb}
 use lib.ListN.{length, take, drop, length-append, length-drop, take-append-drop}
-use lib.Seq.{drop-at, take-all}
+use lib.Seq.{drop-at}
 use Rattle.words.specs.Sequence.{cat}
 use Rattle.words.specs.Block.{Block, Bytes, blockOf, bytesOf, xorBytes}
 use Rattle.words.proofs.Lists.{length-cat, piece, pieces, cat-ext}

@@ -13,12 +13,12 @@ use lib.ListN.{length, getD, take, drop, take-append-drop}
 use lib.Seq.{take-suc, take-all, length-take-le, getD-append-add, getD-drop, drop-at}
 use borrow.Author.Tests.{eq-eqb, ne-eqb, eqb-true}
 use Rattle.words.specs.Sequence.{fold, tab, zeros}
-use Rattle.words.specs.Block.{Block, bytesOf, xorBlock, zeroBlock}
+use Rattle.words.specs.Block.{Block, bytesOf, xorBlock}
 use Rattle.words.proofs.Xor.{xor-cancel-r}
 use Rattle.words.proofs.Lists.{length-tab, front}
 use Rattle.words.proofs.Blocks.{xor-block, zero-block, length-bytesOf}
 use Rattle.blockplan.specs.Compare.{differing}
-use Rattle.blockplan.specs.Plan.{whole, left, blockAt, xorOver, tagBytes, same, opened}
+use Rattle.blockplan.specs.Plan.{whole, left, xorOver, tagBytes, same, opened}
 
 -- ---- sums
 

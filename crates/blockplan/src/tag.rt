@@ -6,7 +6,7 @@ ghost use mathlib.Core.Bool.{cond, not};
 ghost use mathlib.Core.List.{_++_};
 ghost use Prim.Native.Nat.{_≤_};
 ghost use lib.Dec.{eqb};
-ghost use lib.ListN.{length, drop, take};
+ghost use lib.ListN.{length, drop};
 ghost use Rattle.words.specs.Sequence.{zeros};
 ghost use Rattle.words.specs.Block.{bytesOf};
 ghost use Rattle.blockplan.specs.Compare.{differing};

@@ -6,7 +6,7 @@ use Prim.Native.Nat.{ℕ, suc, _<_}
 use lib.ListN.{length, getD, set}
 use Rattle.words.specs.Sequence.{tab, zeros}
 use Rattle.words.specs.Block.{bytesOf, zeroBlock}
-use Rattle.permutation.specs.Permutation.{Quad, gOf, round}
+use Rattle.permutation.specs.Permutation.{gOf, round}
 use Rattle.masks.specs.Steps.{alpha, beta, gamma}
 use Rattle.masks.specs.BackSteps.{unAlpha}
 use Rattle.mem.specs.Mem.{startOf}

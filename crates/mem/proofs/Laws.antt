@@ -4,7 +4,7 @@ use mathlib.Core.List.{List, [], _∷_, _++_}
 use Prim.Native.Nat.{ℕ, zero, suc, _^_, _<_}
 use native.Mathlib.Omega.{arith}
 use lib.Dec.{lit<}
-use lib.ListN.{length, getD, length-append}
+use lib.ListN.{getD, length-append}
 use Rattle.words.specs.Sequence.{tab, times, zeros}
 use Rattle.words.specs.Block.{Block, Bytes, wordAt, blockOf, xorBlock}
 use Rattle.words.proofs.Lists.{length-tab, getD-tab}

@@ -1,5 +1,5 @@
 -- The start, the mask (i, j, k), E and D (document 01, "Masks"). Assumes nothing.
-use mathlib.Core.List.{List, [], _∷_, _++_}
+use mathlib.Core.List.{List, _++_}
 use Prim.Native.Nat.{ℕ}
 use Rattle.words.specs.Sequence.{tab, times, zeros}
 use Rattle.words.specs.Block.{wordAt, xorBlock}

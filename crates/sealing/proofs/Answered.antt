@@ -1,5 +1,4 @@
 -- What seal and open answer is small. Assumes nothing.
-use mathlib.Core.Path.{_≡_}
 use mathlib.Core.Bool.{Bool, true, false, cond, not}
 use mathlib.Core.List.{List, _++_}
 use Prim.Native.Nat.{ℕ, _+_, _-_, _^_, _<_}
@@ -8,7 +7,7 @@ use lib.Dec.{eqb, ltb, lit<}
 use lib.ListN.{length, drop}
 use borrow.Author.Tests.{ltb-false}
 use Rattle.mem.specs.Mem.{startOf}
-use Rattle.answers.specs.Answers.{valueOf, refuse}
+use Rattle.answers.specs.Answers.{valueOf}
 use Rattle.answers.specs.declared.Answer.{Answer}
 use Rattle.answers.proofs.Values.{refuse-lt}
 use Rattle.answers.specs.declared.Answer.the-variants.{Done, Mode, Rounds, KeyLength, NonceLength, HeaderLength, InputLength, OutputLength, TagMissing, TagDiffers}

@@ -1,18 +1,18 @@
 -- Demand 2 holds. Assumes nothing.
 use mathlib.Core.Path.{_≡_, refl, sym, ap, ap₂, _∙_, subst}
-use mathlib.Core.Bool.{Bool, true, false, cond, not, _||_, true≢false, false≢true}
+use mathlib.Core.Bool.{Bool, true, false, cond, false≢true}
 use mathlib.Core.Logic.{_⊎_, inl, inr}
-use mathlib.Core.List.{List, [], _∷_, _++_, append-nil}
-use Prim.Native.Nat.{ℕ, _+_, _-_, _≤_, _<_}
+use mathlib.Core.List.{List, [], _++_, append-nil}
+use Prim.Native.Nat.{ℕ, _+_, _-_, _≤_}
 use native.Mathlib.Omega.{arith}
-use lib.Dec.{eqb, ltb}
-use lib.ListN.{length, take, drop, length-append, length-drop, drop-of-length-le, take-append-drop}
+use lib.Dec.{eqb}
+use lib.ListN.{length, take, drop, length-append, drop-of-length-le, take-append-drop}
 use lib.Seq.{take-at, drop-at, length-take-le}
 use borrow.Author.Tests.{eq-eqb, le-ltb}
 use Rattle.words.specs.Sequence.{zeros}
 use Rattle.words.specs.Block.{Block, Bytes, bytesOf}
 use Rattle.words.proofs.Lists.{length-tab}
-use Rattle.words.proofs.Blocks.{bytes-append, bytes-take, bytes-drop, bytes-bytesOf, length-bytesOf}
+use Rattle.words.proofs.Blocks.{bytes-append, bytes-take, bytes-bytesOf, length-bytesOf}
 use Rattle.mem.specs.Mem.{startOf}
 use Rattle.blockplan.specs.Plan.{opened, same, tagBytes, cipherPart, tagPart}
 use Rattle.blockplan.proofs.Plans.{same-true, same-refl}
@@ -22,9 +22,9 @@ use Rattle.opp.proofs.Opened.{plain-cipher as opp-plain-cipher, cipher-plain as
 use Rattle.mro.proofs.Opened.{length-mroCipher, bytes-mroCipher, mroCipher-undo}
 use Rattle.opp.specs.Opp.{oppTag, oppCipher, oppPlain}
 use Rattle.mro.specs.Mro.{mroTag, mroCipher}
-use Rattle.answers.specs.Answers.{numberOf, refuse}
+use Rattle.answers.specs.Answers.{refuse}
 use Rattle.answers.specs.declared.Answer.{Answer}
-use Rattle.answers.specs.declared.Answer.the-variants.{Done, OutputLength, TagDiffers}
+use Rattle.answers.specs.declared.Answer.the-variants.{Done}
 use Rattle.sealing.specs.Sealing.{tagOf, cipherOf, plainOf, parcelOf, messageOf, isMode, isRounds, settings, isRefusal, sealCall, verdict, openCall}
 use Rattle.sealing.specs.Demand2.{Settings, Message, Parcel, Seals, Opens, Refuses, Demand2}
 

@@ -1,5 +1,4 @@
 -- What walk and jump answer is small. Assumes nothing.
-use mathlib.Core.Path.{_≡_}
 use mathlib.Core.Bool.{Bool, true, false, cond, not, _&&_}
 use mathlib.Core.List.{List, [], _∷_, _++_}
 use Prim.Native.Nat.{ℕ, suc, _^_, _≤_, _<_}
@@ -9,7 +8,7 @@ use lib.IntN.{ℤ}
 use lib.ListN.{length, drop}
 use borrow.Author.Tests.{ltb-false}
 use Rattle.words.specs.Block.{blockOf, bytesOf}
-use Rattle.answers.specs.Answers.{valueOf, refuse}
+use Rattle.answers.specs.Answers.{valueOf}
 use Rattle.answers.proofs.Values.{refuse-lt}
 use Rattle.answers.specs.declared.Answer.the-variants.{Done, OutputLength, StartLength, NetCount, StepByte, ListLength}
 use Rattle.walking.specs.Walking.{isStep, firstBad, inRange, walked, jumped, walkCall, jumpCall}

@@ -1,15 +1,15 @@
 -- Demand 3 holds. Assumes nothing.
 use mathlib.Core.Path.{_≡_, refl, sym, ap, ap₂, _∙_, subst}
-use mathlib.Core.Bool.{Bool, true, false, cond, not, _&&_}
+use mathlib.Core.Bool.{Bool, true, false, cond}
 use mathlib.Core.List.{List, [], _∷_, _++_, append-nil}
 use Prim.Native.Nat.{ℕ, zero, suc, _+_, _-_, _≤_, _<_}
 use native.Mathlib.Omega.{arith}
-use lib.Dec.{eqb, ltb, leb, lit≤}
-use lib.IntN.{ℤ, pos, negsuc, natAbs, negℤ, _+ℤ_, _-ℤ_}
+use lib.Dec.{eqb, ltb, lit≤}
+use lib.IntN.{pos, negsuc, natAbs, _-ℤ_}
 use lib.ListN.{length, getD, drop}
 use borrow.Author.Tests.{eq-eqb, le-leb, le-ltb}
 use Rattle.words.specs.Sequence.{zeros, tab, times}
-use Rattle.words.specs.Block.{Block, Bytes, blockOf, bytesOf, xorBlock, xorBytes}
+use Rattle.words.specs.Block.{Block, blockOf, bytesOf, xorBytes}
 use Rattle.words.proofs.Blocks.{length-bytesOf, bytes-bytesOf, block-blockOf, blockOf-bytesOf, bytes-are, bytesOf-xor, blockOf-xor, length-xorBytes, bytes-xorBytes}
 use Rattle.answers.specs.Answers.{refuse}
 use Rattle.answers.specs.declared.Answer.{Answer}

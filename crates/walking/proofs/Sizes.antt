@@ -5,8 +5,8 @@ use Prim.Native.Nat.{ℕ, zero, suc, _^_, _<_}
 use native.Mathlib.Omega.{arith}
 use mathlib.Core.List.{List}
 use lib.Dec.{T, lit<}
-use lib.IntN.{ℤ, pos, negsuc, sucℤ, natAbs, _+ℤ_, _-ℤ_, +ℤ-one, +ℤ-idl}
-use lib.Signed.{ltZ, mag, nonNeg}
+use lib.IntN.{ℤ, pos, negsuc, natAbs, _+ℤ_, _-ℤ_, +ℤ-one, +ℤ-idl}
+use lib.Signed.{ltZ, nonNeg}
 use Rattle.words.specs.Sequence.{times}
 use Rattle.walking.specs.Walking.{taken, inRange}
 use mir.Syntax.{w32}

@@ -1,12 +1,9 @@
 -- Where a list leads is decided by its three net counts. Assumes nothing.
-use mathlib.Core.Path.{_≡_, refl, sym, ap, ap₂, _∙_}
-use mathlib.Core.Bool.{Bool, true, false, cond}
+use mathlib.Core.Path.{_≡_, refl, sym, ap, _∙_}
 use mathlib.Core.List.{List, [], _∷_}
-use Prim.Native.Nat.{ℕ, zero, suc, _+_, _≤_, _<_}
+use Prim.Native.Nat.{ℕ, zero, suc, _+_, _<_}
 use native.Mathlib.Omega.{arith}
-use lib.Dec.{eqb}
-use lib.IntN.{ℤ, pos, negsuc, sucℤ, predℤ, natAbs, negℤ, _+ℤ_, _-ℤ_, sucℤ-+ℤ, negℤ-sucℤ, +ℤ-predℤ}
-use lib.ListN.{length}
+use lib.IntN.{ℤ}
 use borrow.Author.Tests.{ne-eqb}
 use Rattle.words.specs.Sequence.{times}
 use Rattle.words.specs.Block.{Block, xorBlock}

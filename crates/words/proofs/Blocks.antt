@@ -2,17 +2,17 @@
 use mathlib.Core.Path.{_≡_, refl, sym, ap, ap₂, _∙_, subst}
 use mathlib.Core.List.{List, [], _∷_, _++_, append-nil}
 use Prim.Native.Nat.{ℕ, zero, suc, _+_, _-_, _*_, _/_, _%_, _^_, _≤_, _<_}
-use native.Mathlib.Nat.{mod-lt, zero-lt-suc, mul-suc, pow-suc, pow-zero, mul-zero, mul-one, mul-comm, lt-of-lt-of-le, pow-le-pow-right}
+use native.Mathlib.Nat.{mod-lt, pow-suc, lt-of-lt-of-le, pow-le-pow-right}
 use native.Mathlib.Omega.{arith}
 use native.Mathlib.Decide.{decLt}
-use lib.Dec.{lit<, lit≤}
-use lib.ListN.{length, getD, take, drop, length-take, length-drop, length-append, List·getD-append, List·getD-eq-default}
-use lib.Seq.{take-all, take-append-le, getD-take, getD-drop}
-use lib.Bits.{bitXor, xor-lt, xor-comm, xor-self, xor-zero-l, xor-zero-r, xor-mod, xor-shr}
+use lib.Dec.{lit<}
+use lib.ListN.{length, getD, take, drop, length-take, length-drop, List·getD-eq-default}
+use lib.Seq.{take-all, getD-take, getD-drop}
+use lib.Bits.{bitXor, xor-lt, xor-comm, xor-self, xor-zero-r, xor-mod, xor-shr}
 use Rattle.words.specs.Sequence.{tab, cat}
 use Rattle.words.specs.Block.{Block, Bytes, le, lowBytes, wordAt, blockOf, wordBytes, bytesOf, xorAt, xorBlock, xorBytes, zeroBlock}
 use Rattle.words.proofs.Lists.{length-tab, getD-tab, getD-tab-past, tab-ext, tab-getD, length-cat, cat-ext, piece, pieces}
-use Rattle.words.proofs.Xor.{xor-assoc, xor-cancel-l, xor-cancel-r, xor-swap}
+use Rattle.words.proofs.Xor.{xor-assoc, xor-cancel-r}
 
 -- ---- blocks
 

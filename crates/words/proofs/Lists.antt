@@ -6,8 +6,8 @@ use native.Mathlib.Nat.{mul-suc, mul-zero, le-of-eq, mul-le-mul-left}
 use native.Mathlib.Numerals.{add-one}
 use native.Mathlib.Omega.{arith}
 use native.Mathlib.Decide.{decLt}
-use lib.ListN.{length, getD, take, drop, set, length-append, length-drop, length-set, List·getD-append, List·getD-eq-default, drop-of-length-le}
-use lib.Seq.{drop-drop, getD-at, take-at, drop-at, take-all, ext-getD, drop-length, take-add, length-take-le, getD-take, take-suc-set, drop-cons, set-at, take-append-le, getD-set-same, getD-set-other}
+use lib.ListN.{length, getD, take, drop, set, length-append, length-drop, List·getD-append, List·getD-eq-default, drop-of-length-le}
+use lib.Seq.{drop-drop, getD-at, take-at, drop-at, take-all, ext-getD, take-add, length-take-le, getD-take, take-suc-set, drop-cons, set-at, take-append-le, getD-set-same, getD-set-other}
 use borrow.Rule.Slice.PartMut.{putMid}
 use Rattle.words.specs.Sequence.{tab, cat, fold, times, zeros}
 

@@ -1,12 +1,12 @@
 -- Laws of rotations and shifts of 64-bit words. Assumes nothing.
-use mathlib.Core.Path.{_≡_, refl, sym, ap, ap₂, _∙_, subst}
-use Prim.Native.Nat.{ℕ, zero, suc, _+_, _-_, _*_, _/_, _%_, _^_, _≤_, _<_}
+use mathlib.Core.Path.{_≡_, sym, ap, ap₂, _∙_, subst}
+use Prim.Native.Nat.{ℕ, _+_, _-_, _*_, _/_, _%_, _^_, _<_}
 use native.Mathlib.Nat.{add-comm, add-zero, mod-lt, mul-mod-left}
 use native.Mathlib.Omega.{arith}
 use lib.Pow.{pow-pos, pow-add, high, low, split, shr-lt, shl-shr, mod-pow-add}
 use lib.Arith.{digits-lt}
-use lib.Bits.{bitOr, bitXor, or-shifted-r, xor-block, xor-shr, xor-mod, xor-lt}
-use Rattle.words.specs.Word.{rotR, rotL, shl}
+use lib.Bits.{bitOr, bitXor, or-shifted-r, xor-block, xor-shr, xor-mod}
+use Rattle.words.specs.Word.{rotR, shl}
 
 module _ (j k : ℕ) (e : j + k ≡ 64) where
   other : 64 - j ≡ k

@@ -1,6 +1,6 @@
 -- Blocks of sixteen words, and the 128 bytes that they stand for (document 01, "Words, bytes, blocks"). Assumes nothing.
 use mathlib.Core.Path.{_≡_}
-use mathlib.Core.List.{List, [], _∷_, _++_}
+use mathlib.Core.List.{List, [], _∷_}
 use Prim.Native.Nat.{ℕ, zero, suc, _+_, _*_, _/_, _%_, _^_, _<_}
 use lib.ListN.{length, getD, take, drop}
 use lib.Bits.{bitXor}

@@ -1,7 +1,6 @@
 -- Each return is one check of the definition, in its order. Assumes nothing.
 use borrow.Author.Tests.{eq-eqb, ne-eqb, lt-ltb, le-ltb}
 use mathlib.Core.Path.{_≡_, sym, _∙_}
-use Prim.Native.Nat.{ℕ}
 use Rattle.answers.specs.Answers.{numberOf, refuse}
 use Rattle.sealing.specs.Sealing.{openCall, isRefusal, verdict}
 use borrow.Author.Needs.{needs}

@@ -1,15 +1,13 @@
 -- The loop's invariant: i blocks are in, and what is left is the part from block i on. Assumes nothing.
-use mathlib.Core.Path.{_≡_, refl, sym, ap, _∙_}
-use mathlib.Core.List.{List, [], _∷_, _++_}
-use Prim.Native.Nat.{ℕ, _+_, _*_, _-_, _≤_, _<_}
+use mathlib.Core.Path.{_≡_, refl}
+use Prim.Native.Nat.{ℕ, _+_, _*_, _-_}
 use native.Mathlib.Omega.{arith}
 use native.Mathlib.Nat.{zero-add}
-use lib.ListN.{length, getD, take, drop, set, length-set, length-drop}
+use lib.ListN.{length, drop, length-drop}
 use denote.Ref.{now}
 use Rattle.words.specs.Sequence.{times, fold}
 use Rattle.blockplan.proofs.Plans.{summed, whole-is}
-use Rattle.words.specs.Block.{xorBlock, zeroBlock}
-use Rattle.words.proofs.Lists.{tailPart, nextPart, folded, timesed}
+use Rattle.words.proofs.Lists.{tailPart, nextPart, timesed}
 use Rattle.masks.specs.Steps.{alpha}
 use Rattle.blockplan.specs.Plan.{whole, blockAt, xorOver}
 use Rattle.blockplan.specs.Stepped.{stepped}

@@ -1,14 +1,12 @@
 -- The loop's invariant: the bytes read as the first i of the leftover, zeros after them. Assumes nothing.
-use mathlib.Core.Path.{_≡_, refl, sym, ap, _∙_}
-use mathlib.Core.List.{List, [], _∷_, _++_}
-use Prim.Native.Nat.{ℕ, _+_, _*_, _-_, _≤_, _<_}
+use mathlib.Core.Path.{_≡_, refl, _∙_}
+use Prim.Native.Nat.{ℕ, _-_, _≤_, _<_}
 use native.Mathlib.Omega.{arith}
-use lib.ListN.{length, getD, take, drop, set, length-set, length-drop}
+use lib.ListN.{length, getD, take, length-set}
 use denote.Ref.{now}
 use native.Mathlib.Numerals.{add-one}
 use lib.Seq.{take-suc, length-take-le, take-all}
 use Rattle.words.specs.Sequence.{zeros, tab}
-use Rattle.words.specs.Block.{blockOf}
 use Rattle.words.proofs.Lists.{extended, getD-zeros}
 use Rattle.words.proofs.Blocks.{blockOf-ext}
 use borrow.Author.Needs.{needs}

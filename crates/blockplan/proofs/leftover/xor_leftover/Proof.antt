@@ -1,9 +1,9 @@
 -- The loop's invariant: the first i bytes are in, the others are as they were. Assumes nothing.
-use mathlib.Core.Path.{_≡_, refl, sym, ap, _∙_}
-use mathlib.Core.List.{List, [], _∷_, _++_, append-nil}
-use Prim.Native.Nat.{ℕ, _+_, _*_, _-_, _≤_, _<_}
+use mathlib.Core.Path.{_≡_, refl, _∙_}
+use mathlib.Core.List.{_++_, append-nil}
+use Prim.Native.Nat.{_+_, _-_, _≤_}
 use native.Mathlib.Omega.{arith}
-use lib.ListN.{length, getD, take, drop, set, length-set, length-drop}
+use lib.ListN.{length, drop, length-set}
 use denote.Ref.{now}
 use Rattle.words.specs.Sequence.{tab}
 use Rattle.words.specs.Block.{bytesOf, xorAt, xorBytes}

@@ -1,14 +1,13 @@
 -- The loop's invariant: the first i bytes are masked, the others are as they were. Assumes nothing.
-use mathlib.Core.Path.{_≡_, refl, sym, ap, _∙_}
-use mathlib.Core.List.{List, [], _∷_, _++_}
-use Prim.Native.Nat.{ℕ, _+_, _*_, _-_, _≤_, _<_}
+use mathlib.Core.Path.{_≡_, refl, ap, _∙_}
+use mathlib.Core.List.{_++_}
+use Prim.Native.Nat.{ℕ, _+_, _-_, _≤_}
 use native.Mathlib.Omega.{arith}
-use lib.ListN.{length, getD, take, drop, set, length-set, length-drop}
-use denote.Ref.{now}
+use lib.ListN.{length, getD, drop, length-set}
 use mathlib.Core.Bool.{cond}
 use lib.Dec.{eqb}
 use lib.Bits.{bitAnd}
-use Rattle.words.specs.Sequence.{tab, zeros}
+use Rattle.words.specs.Sequence.{tab}
 use Rattle.words.proofs.Lists.{placed}
 use Rattle.blockplan.proofs.Plans.{keptAt, masked, untouched, kept}
 use borrow.Author.Needs.{needs}

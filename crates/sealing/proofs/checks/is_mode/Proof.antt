@@ -1,7 +1,6 @@
 -- The two tests in turn. Assumes nothing.
 use borrow.Author.Tests.{eq-eqb, ne-eqb}
 use Rattle.sealing.specs.Sealing.{isMode}
-use borrow.Author.Needs.{needs}
 use Rattle.sealing.proofs.checks.is_mode.Statement.{statement}
 use Rattle.sealing.proofs.checks.is_mode.Tie as tie
 

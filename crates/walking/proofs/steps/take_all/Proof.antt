@@ -3,9 +3,9 @@ use mathlib.Core.Path.{_≡_, refl, sym, _∙_}
 use Prim.Native.Nat.{_≤_, _-_}
 use native.Mathlib.Omega.{arith}
 use native.Mathlib.Numerals.{add-one}
-use lib.ListN.{length, getD, drop, drop-of-length-le}
+use lib.ListN.{length, drop, drop-of-length-le}
 use lib.Seq.{drop-cons}
-use Rattle.walking.specs.Walking.{walked, step}
+use Rattle.walking.specs.Walking.{walked}
 use denote.Ref.{now}
 use borrow.Author.Needs.{needs}
 use Rattle.walking.proofs.steps.take_all.Statement.{statement}

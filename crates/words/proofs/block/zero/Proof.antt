@@ -2,7 +2,6 @@
 use mathlib.Core.Path.{refl}
 use Rattle.words.specs.Sequence.{tab}
 use Rattle.words.specs.Block.{zeroBlock}
-use borrow.Author.Needs.{needs}
 use Rattle.words.proofs.block.zero.Statement.{statement}
 use Rattle.words.proofs.block.zero.Tie as tie
 
