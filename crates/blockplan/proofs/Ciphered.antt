@@ -27,10 +27,6 @@ pub length-left : (s : List ℕ) → length (left s) ≡ length s - 128 * whole 
 unfolding left
 length-left s = length-drop (128 * whole s) s
 
-pub left-lt : (s : List ℕ) → length (left s) < 128
-unfolding whole
-left-lt s = rw (length-left s) (omega arith)
-
 pub bytes-left : (s : List ℕ) → Bytes s → Bytes (left s)
 unfolding left
 bytes-left s h = bytes-drop (128 * whole s) s h

@@ -72,10 +72,6 @@ pub zero-fixed : (f g : List ℕ → List ℕ) → Step f g → f zeroBlock ≡ 
 zero-fixed f g step =
     ap f (sym (xorBlock-self zeroBlock)) ∙ step .linear zeroBlock zeroBlock zero-block zero-block ∙ xorBlock-self (f zeroBlock)
 
--- and no other block becomes the zero block
-pub zero-only : (f g : List ℕ → List ℕ) → Step f g → (s : List ℕ) → Block s → f s ≡ zeroBlock → s ≡ zeroBlock
-zero-only f g step s h e = sym (step .undo s h) ∙ ap g e ∙ zero-fixed g f (back-step f g step)
-
 -- each back step's value is the only block whose forward step gives the block at hand
 pub back-steps : BackSteps
 back-steps = record {

@@ -8,8 +8,8 @@ use lib.ListN.{length, getD, take, drop, length-take, length-drop, List·getD-ap
 use lib.Seq.{take-all}
 use Rattle.words.specs.Sequence.{tab, cat, zeros}
 use Rattle.words.specs.Block.{Block, Bytes, le, lowBytes, wordAt, wordBytes, blockOf, bytesOf}
-use Rattle.words.proofs.Lists.{length-tab, getD-tab, length-cat, cat-ext, piece, pieces, take-cat}
-use Rattle.words.proofs.Blocks.{length-wordBytes, le-lowBytes, lowBytes-le, bytes-take, bytes-drop, bytes-bytesOf}
+use Rattle.words.proofs.Lists.{length-tab, getD-tab, cat-ext, piece, pieces, take-cat}
+use Rattle.words.proofs.Blocks.{length-wordBytes, le-lowBytes, lowBytes-le, bytes-take, bytes-drop}
 use Rattle.blockplan.specs.Plan.{tagBytes}
 use Rattle.mro.specs.Mro.{counter}
 
@@ -17,13 +17,6 @@ use Rattle.mro.specs.Mro.{counter}
 pub tag-is : (b : List ℕ) → tagBytes b ≡ cat (wordBytes b) 4
 unfolding tagBytes bytesOf
 tag-is b = take-cat (wordBytes b) 8 16 4 (length-wordBytes b) (omega arith)
-
-pub length-tag : (b : List ℕ) → length (tagBytes b) ≡ 32
-length-tag b = ap length (tag-is b) ∙ length-cat (wordBytes b) 8 4 (length-wordBytes b)
-
-pub bytes-tag : (b : List ℕ) → Bytes (tagBytes b)
-unfolding tagBytes
-bytes-tag b = bytes-take 32 (bytesOf b) (bytes-bytesOf b)
 
 -- a block's first four words come back from its tag
 pub word-tag : (b : List ℕ) → Block b → (i : ℕ) → i < 4 → wordAt (tagBytes b) i ≡ getD b i 0

@@ -1,22 +1,15 @@
--- The running mask: one step of alpha or beta on. Assumes nothing.
-use mathlib.Core.Path.{_≡_, sym, ap, _∙_}
+-- The running mask: one step of beta on. Assumes nothing.
+use mathlib.Core.Path.{_≡_}
 use mathlib.Core.List.{List}
-use Prim.Native.Nat.{ℕ, suc, _+_}
-use native.Mathlib.Numerals.{add-one}
+use Prim.Native.Nat.{ℕ, suc}
 use Rattle.words.specs.Sequence.{times}
 use Rattle.words.specs.Block.{Block}
 use Rattle.words.proofs.Times.{times-keeps, times-commute}
 use Rattle.masks.specs.Steps.{alpha, beta, gamma}
 use Rattle.masks.proofs.Laws.{alpha-step, beta-step, gamma-step, beta-gamma}
 use Rattle.mem.specs.Mem.{maskAt}
-use Rattle.mem.proofs.Laws.{mask-alpha}
 
 module _ (start : List ℕ) (b : Block start) (i j k : ℕ) where
-  -- the next block's mask is one alpha step on
-  pub alpha-on : alpha (maskAt start i j k) ≡ maskAt start (i + 1) j k
-  unfolding times
-  alpha-on = ap alpha (mask-alpha start b i j k) ∙ sym (mask-alpha start b (suc i) j k) ∙ ap (λ (n : ℕ). maskAt start n j k) (sym (add-one i))
-
   -- beta steps may come last too
   pub beta-on : beta (maskAt start i j k) ≡ maskAt start i (suc j) k
   unfolding maskAt times

@@ -1,11 +1,10 @@
 -- The groups of word numbers: each is four places of a block, and groups apart come in any order. Assumes nothing.
-use mathlib.Core.Path.{_≡_}
 use mathlib.Core.List.{List, [], _∷_}
 use Prim.Native.Nat.{ℕ, zero, suc, _<_}
 use native.Mathlib.Omega.{arith}
 use lib.ListN.{length, getD}
-use Rattle.permutation.specs.Permutation.{gOf, gAt, groups}
-use Rattle.permutation.proofs.Places.{Row, Apart, step-comm}
+use Rattle.permutation.specs.Permutation.{groups}
+use Rattle.permutation.proofs.Places.{Row}
 
 -- each row of a list is four places of a block
 abbrev pub Rows : List (List ℕ) → Type 0
@@ -21,8 +20,3 @@ row-at (row ∷ rows) rs (suc k) h = row-at rows (rs .1) k (omega arith)
 pub groups-rows : Rows groups
 unfolding groups
 groups-rows = (omega arith, (omega arith, (omega arith, (omega arith, (omega arith, (omega arith, (omega arith, (omega arith, tt))))))))
-
--- G over two groups with no word number in common, in either order
-pub gAt-comm : (row other s : List ℕ) → Apart row other → gAt other (gAt row s) ≡ gAt row (gAt other s)
-unfolding gAt
-gAt-comm row other s a = step-comm gOf gOf row other s a

@@ -159,10 +159,6 @@ pub bytes-bytesOf : (b : List ℕ) → Bytes (bytesOf b)
 unfolding bytesOf wordBytes
 bytes-bytesOf b = bytes-cat (wordBytes b) 16 (λ i. record { bytes = lowBytes-byte 8 (getD b i 0) })
 
-pub length-blockOf : (s : List ℕ) → length (blockOf s) ≡ 16
-unfolding blockOf
-length-blockOf s = length-tab (wordAt s) 16
-
 wordAt-lt : (s : List ℕ) (i : ℕ) → Bytes s → wordAt s i < 2 ^ 64
 unfolding wordAt
 wordAt-lt s i h =

@@ -9,7 +9,7 @@ use native.Mathlib.Decide.{decLt}
 use lib.ListN.{length, getD, take, drop, set, length-append, length-drop, List·getD-append, List·getD-eq-default, drop-of-length-le}
 use lib.Seq.{drop-drop, getD-at, take-at, drop-at, take-all, ext-getD, take-add, length-take-le, getD-take, take-suc-set, drop-cons, set-at, take-append-le, getD-set-same, getD-set-other}
 use borrow.Rule.Slice.PartMut.{putMid}
-use Rattle.words.specs.Sequence.{tab, cat, fold, times, zeros}
+use Rattle.words.specs.Sequence.{tab, cat, times, zeros}
 
 pub length-tab : (f : ℕ → ℕ) (n : ℕ) → length (tab f n) ≡ n
 unfolding tab
@@ -84,10 +84,6 @@ appended f w i old xs ys hw h e q =
 -- the part from the next block on
 pub nextPart : (w i : ℕ) (t s : List ℕ) → t ≡ drop (w * i) s → take (length t - w) (drop w t) ≡ drop (w * (i + 1)) s
 nextPart w i t s e = tailPart w t ∙ rw (e, drop-drop, add-one, mul-suc)
-
-pub folded : (f : ℕ → List ℕ → List ℕ) (z : List ℕ) (i : ℕ) (sum next : List ℕ) → sum ≡ fold f z i → next ≡ f i sum → next ≡ fold f z (i + 1)
-unfolding fold
-folded f z i sum next e q = rw (add-one, q, e)
 
 pub timesed : (f : List ℕ → List ℕ) (s : List ℕ) (i : ℕ) (r next : List ℕ) → r ≡ times f i s → next ≡ f r → next ≡ times f (i + 1) s
 unfolding times
