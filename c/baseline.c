@@ -227,8 +227,8 @@ static inline void decrypt(uint32_t rounds, const uint64_t m[WORDS], uint64_t bl
 }
 
 /* Adds E of the whole blocks at p to sum, each under its mask, and steps the masks past them. */
-static void absorb(uint32_t rounds, struct masks *masks, const uint8_t *p, size_t blocks,
-                   uint64_t sum[WORDS])
+static void absorb_whole(uint32_t rounds, struct masks *masks, const uint8_t *p, size_t blocks,
+                         uint64_t sum[WORDS])
 {
     uint64_t block[WORDS];
 
@@ -237,6 +237,28 @@ static void absorb(uint32_t rounds, struct masks *masks, const uint8_t *p, size_
         encrypt(rounds, mask(masks), block);
         xor_into(sum, block);
         next_mask(masks);
+    }
+}
+
+/*
+ * Adds E of all of p to sum, from the mask (0, b, 0) on. OPP pads a leftover with the byte 1 and
+ * takes it in under a mask one beta step further; MRO pads it with zeros.
+ */
+static inline void absorb(uint32_t mode, uint32_t rounds, const uint64_t start[WORDS], int b,
+                          const uint8_t *p, size_t len, uint64_t sum[WORDS])
+{
+    struct masks masks;
+    uint64_t block[WORDS];
+    size_t blocks = len / BLOCK, leftover = len % BLOCK;
+
+    first_mask(&masks, start, b, 0);
+    absorb_whole(rounds, &masks, p, blocks, sum);
+    if (leftover > 0) {
+        load_padded(block, p + blocks * BLOCK, leftover, mode == OPP);
+        if (mode == OPP)
+            beta(mask(&masks));
+        encrypt(rounds, mask(&masks), block);
+        xor_into(sum, block);
     }
 }
 
@@ -261,24 +283,6 @@ static void xor_bytes(uint8_t *out, const uint8_t *in, const uint64_t stream[WOR
 }
 
 /* OPP. */
-
-static void opp_header(uint32_t rounds, const uint64_t start[WORDS], const uint8_t *header,
-                       size_t len, uint64_t sum[WORDS])
-{
-    struct masks masks;
-    uint64_t block[WORDS];
-    size_t blocks = len / BLOCK, leftover = len % BLOCK;
-
-    memset(sum, 0, BLOCK);
-    first_mask(&masks, start, 0, 0);
-    absorb(rounds, &masks, header, blocks, sum);
-    if (leftover > 0) {
-        load_padded(block, header + blocks * BLOCK, leftover, 1);
-        beta(mask(&masks));
-        encrypt(rounds, mask(&masks), block);
-        xor_into(sum, block);
-    }
-}
 
 /*
  * The leftover of in goes to out. m is the mask (i, 0, 1) behind the last whole block; check takes
@@ -339,30 +343,13 @@ static void opp_open(uint32_t rounds, const uint64_t start[WORDS], const uint8_t
 
 /* MRO. */
 
-static void mro_absorb(uint32_t rounds, const uint64_t start[WORDS], int b, const uint8_t *p,
-                       size_t len, uint64_t sum[WORDS])
-{
-    struct masks masks;
-    uint64_t block[WORDS];
-    size_t blocks = len / BLOCK, leftover = len % BLOCK;
-
-    first_mask(&masks, start, b, 0);
-    absorb(rounds, &masks, p, blocks, sum);
-    if (leftover > 0) {
-        load_padded(block, p + blocks * BLOCK, leftover, 0);
-        encrypt(rounds, mask(&masks), block);
-        xor_into(sum, block);
-    }
-}
-
 static void mro_tag(uint32_t rounds, const uint64_t start[WORDS], const uint8_t *header,
                     size_t header_len, const uint8_t *message, size_t len, uint64_t tag[WORDS])
 {
     struct masks masks;
 
-    memset(tag, 0, BLOCK);
-    mro_absorb(rounds, start, 0, header, header_len, tag);
-    mro_absorb(rounds, start, 1, message, len, tag);
+    absorb(MRO, rounds, start, 0, header, header_len, tag);
+    absorb(MRO, rounds, start, 1, message, len, tag);
     tag[14] ^= header_len;
     tag[15] ^= len;
     first_mask(&masks, start, 2, 0);
@@ -425,7 +412,7 @@ uint64_t baseline_seal(uint32_t mode, uint32_t rounds, const uint8_t *key, size_
                        size_t header_len, const uint8_t *input, size_t input_len, uint8_t *output,
                        size_t output_len)
 {
-    uint64_t start[WORDS], tag[WORDS];
+    uint64_t start[WORDS], tag[WORDS] = {0};
     uint64_t refusal = check_settings(mode, rounds, key_len, nonce_len, header_len);
 
     if (refusal != 0)
@@ -437,7 +424,7 @@ uint64_t baseline_seal(uint32_t mode, uint32_t rounds, const uint8_t *key, size_
 
     start_block(start, rounds, key, nonce);
     if (mode == OPP) {
-        opp_header(rounds, start, header, header_len, tag);
+        absorb(OPP, rounds, start, 0, header, header_len, tag);
         opp_seal(rounds, start, input, output, input_len, tag);
     } else {
         mro_tag(rounds, start, header, header_len, input, input_len, tag);
@@ -453,7 +440,7 @@ uint64_t baseline_open(uint32_t mode, uint32_t rounds, const uint8_t *key, size_
                        size_t header_len, const uint8_t *input, size_t input_len, uint8_t *output,
                        size_t output_len)
 {
-    uint64_t start[WORDS], tag[WORDS];
+    uint64_t start[WORDS], tag[WORDS] = {0};
     uint64_t refusal = check_settings(mode, rounds, key_len, nonce_len, header_len);
 
     if (refusal != 0)
@@ -468,7 +455,7 @@ uint64_t baseline_open(uint32_t mode, uint32_t rounds, const uint8_t *key, size_
 
     start_block(start, rounds, key, nonce);
     if (mode == OPP) {
-        opp_header(rounds, start, header, header_len, tag);
+        absorb(OPP, rounds, start, 0, header, header_len, tag);
         opp_open(rounds, start, input, output, len, tag);
     } else {
         uint64_t given[4];
@@ -494,6 +481,20 @@ struct inverses {
     columns beta, gamma;
 };
 
+static inline uint64_t bit(const uint64_t x[2], int k)
+{
+    return x[k / 64] >> k % 64 & 1;
+}
+
+/* Adds column j to column k in both. */
+static void add_column(columns map, columns inverse, int k, int j)
+{
+    for (int w = 0; w < 2; w++) {
+        map[k][w] ^= map[j][w];
+        inverse[k][w] ^= inverse[j][w];
+    }
+}
+
 /* Gauss-Jordan elimination over the columns of a map of n bits. */
 static void invert(columns map, columns inverse, int n)
 {
@@ -503,20 +504,13 @@ static void invert(columns map, columns inverse, int n)
     }
     for (int k = 0; k < n; k++) {
         int pivot = k;
-        while (!(map[pivot][k / 64] >> k % 64 & 1))
+        while (!bit(map[pivot], k))
             pivot++;
-        for (int w = 0; pivot != k && w < 2; w++) {
-            map[k][w] ^= map[pivot][w];
-            inverse[k][w] ^= inverse[pivot][w];
-        }
-        for (int j = 0; j < n; j++) {
-            if (j == k || !(map[j][k / 64] >> k % 64 & 1))
-                continue;
-            for (int w = 0; w < 2; w++) {
-                map[j][w] ^= map[k][w];
-                inverse[j][w] ^= inverse[k][w];
-            }
-        }
+        if (pivot != k)
+            add_column(map, inverse, k, pivot);
+        for (int j = 0; j < n; j++)
+            if (j != k && bit(map[j], k))
+                add_column(map, inverse, j, k);
     }
 }
 
@@ -543,7 +537,7 @@ static inline void apply(columns map, const uint64_t x[2], int n, uint64_t y[2])
 {
     y[0] = y[1] = 0;
     for (int k = 0; k < n; k++) {
-        uint64_t select = -(x[k / 64] >> k % 64 & 1);
+        uint64_t select = -bit(x, k);
         y[0] ^= map[k][0] & select;
         y[1] ^= map[k][1] & select;
     }

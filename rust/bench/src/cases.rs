@@ -7,8 +7,10 @@ use std::fmt;
 /// Message lengths in bytes. The first is a sale record.
 pub const LENGTHS: [usize; 5] = [13, 128, 1024, 4096, 65_536];
 
-const KEY: [u8; 32] = [0x42; 32];
-const NONCE: [u8; 24] = [0x24; 24];
+/// The key of every case.
+pub const KEY: [u8; 32] = [0x42; 32];
+/// The nonce of every case, or as many of its bytes as are needed.
+pub const NONCE: [u8; 24] = [0x24; 24];
 
 /// Who does the work.
 #[derive(Clone, Copy, Debug, PartialEq, Eq)]
@@ -84,6 +86,29 @@ pub struct Case {
     pub call: Box<dyn FnMut() -> u64>,
 }
 
+impl Case {
+    /// The case of `key`. `run` takes true to seal and false to open, the input and the output.
+    pub fn new(
+        key: Key,
+        tag_len: usize,
+        run: impl Fn(bool, &[u8], &mut [u8]) -> u64 + 'static,
+    ) -> Self {
+        let (message, mut parcel) = (vec![0x5a; key.len], vec![0; key.len + tag_len]);
+        run(true, &message, &mut parcel);
+        if key.operation == Operation::Refuse {
+            parcel[key.len] ^= 1;
+        }
+        let sealing = key.operation == Operation::Seal;
+        let (input, mut output) = if sealing {
+            (message, parcel)
+        } else {
+            (parcel, message)
+        };
+        let call = Box::new(move || run(sealing, &input, &mut output));
+        Self { key, call }
+    }
+}
+
 /// All cases, the empty message included. Those that are compared stand side by side.
 pub fn all(sodium: Option<&Sodium>) -> Vec<Case> {
     let mut cases = Vec::new();
@@ -135,26 +160,15 @@ impl SealOpen {
             Self::Reference => Implementation::Reference,
         };
         let settings = setting.expect("a mode and a round count");
-        let (message, mut parcel) = (vec![0x5a; len], vec![0; len + 32]);
-        self.run(settings, true, &message, &mut parcel);
-        if operation == Operation::Refuse {
-            parcel[len] ^= 1;
-        }
-        let sealing = operation == Operation::Seal;
-        let (input, mut output) = if sealing {
-            (message, parcel)
-        } else {
-            (parcel, message)
+        let key = Key {
+            implementation,
+            setting,
+            operation,
+            len,
         };
-        Case {
-            key: Key {
-                implementation,
-                setting,
-                operation,
-                len,
-            },
-            call: Box::new(move || self.run(settings, sealing, &input, &mut output)),
-        }
+        Case::new(key, 32, move |seal, input, output| {
+            self.run(settings, seal, input, output)
+        })
     }
 
     fn run(self, (mode, rounds): (u32, u32), seal: bool, input: &[u8], output: &mut [u8]) -> u64 {

@@ -72,32 +72,33 @@ fn figures(samples: &Samples, figure: impl Fn(f64, usize) -> String) -> Table {
     for (setting, implementations) in groups.into_iter().chain([(None, &SODIUM[..])]) {
         for operation in OPERATIONS {
             for &implementation in implementations {
+                let key = Key {
+                    implementation,
+                    setting,
+                    operation,
+                    len: 0,
+                };
                 let cells = LENGTHS.map(|len| {
-                    let key = Key {
-                        implementation,
-                        setting,
-                        operation,
-                        len,
-                    };
-                    samples.cycles(key).map(|cycles| figure(cycles, len))
+                    let cycles = samples.cycles(Key { len, ..key });
+                    cycles.map(|cycles| figure(cycles, len))
                 });
                 if cells.iter().all(Option::is_some) {
-                    let names = [
-                        setting_name(setting),
-                        operation.to_string(),
-                        implementation.to_string(),
-                    ];
-                    table.row(
-                        names
-                            .into_iter()
-                            .chain(cells.into_iter().flatten())
-                            .collect(),
-                    );
+                    let cells = cells.into_iter().flatten();
+                    table.row(names(key).into_iter().chain(cells).collect());
                 }
             }
         }
     }
     table
+}
+
+/// The first cells of a row.
+fn names(key: Key) -> [String; 3] {
+    [
+        setting_name(key.setting),
+        key.operation.to_string(),
+        key.implementation.to_string(),
+    ]
 }
 
 fn library(setting: Setting, operation: Operation, len: usize) -> Key {
@@ -184,13 +185,8 @@ fn growth(samples: &Samples) -> Table {
                 let whole = samples.ratio(long, short);
                 let above = samples.ratio_above(long, short, empty);
                 if let (Some(whole), Some(above)) = (whole, above) {
-                    table.row(vec![
-                        setting_name(setting),
-                        operation.to_string(),
-                        implementation.to_string(),
-                        format!("{:.3}", whole / 16.0),
-                        format!("{:.3}", above / 16.0),
-                    ]);
+                    let cells = [whole, above].map(|ratio| format!("{:.3}", ratio / 16.0));
+                    table.row(names(long).into_iter().chain(cells).collect());
                 }
             }
         }

@@ -1,14 +1,12 @@
 //! libsodium, loaded when the program runs, so that it builds without it.
 
-use crate::cases::{Case, Implementation, Key, Operation};
+use crate::cases::{Case, Implementation, Key, Operation, KEY, NONCE};
 use std::ffi::{c_char, c_int, c_uchar, c_ulonglong, c_void, CStr};
 use std::ptr::{null, null_mut};
 
 const NAMES: [&CStr; 3] = [c"libsodium.so", c"libsodium.so.26", c"libsodium.so.23"];
 const RTLD_NOW: c_int = 2;
 const TAG_LEN: usize = 16;
-const KEY: [u8; 32] = [0x42; 32];
-const NONCE: [u8; 24] = [0x24; 24];
 
 extern "C" {
     fn dlopen(name: *const c_char, flags: c_int) -> *mut c_void;
@@ -120,23 +118,19 @@ fn aead(
 
 impl Aead {
     fn case(self, operation: Operation, len: usize) -> Case {
-        let mut message = vec![0x5a; len];
-        let mut sealed = vec![0; len + TAG_LEN];
-        self.encrypt(&message, &mut sealed);
-        if operation == Operation::Refuse {
-            sealed[len] ^= 1;
-        }
         let key = Key {
             implementation: self.implementation,
             setting: None,
             operation,
             len,
         };
-        let call: Box<dyn FnMut() -> u64> = match operation {
-            Operation::Seal => Box::new(move || self.encrypt(&message, &mut sealed)),
-            _ => Box::new(move || self.decrypt(&sealed, &mut message)),
-        };
-        Case { key, call }
+        Case::new(key, TAG_LEN, move |seal, input, output| {
+            if seal {
+                self.encrypt(input, output)
+            } else {
+                self.decrypt(input, output)
+            }
+        })
     }
 
     fn encrypt(&self, message: &[u8], sealed: &mut [u8]) -> u64 {

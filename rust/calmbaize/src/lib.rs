@@ -113,23 +113,8 @@ pub fn seal(
     message: &[u8],
     output: &mut [u8],
 ) -> Result<usize, Refusal> {
-    // SAFETY: each pointer is valid for its length, and a mutable borrow overlaps no other.
-    result(unsafe {
-        ffi::calmbaize_seal(
-            mode as u32,
-            rounds,
-            key.as_ptr(),
-            key.len(),
-            nonce.as_ptr(),
-            nonce.len(),
-            header.as_ptr(),
-            header.len(),
-            message.as_ptr(),
-            message.len(),
-            output.as_mut_ptr(),
-            output.len(),
-        )
-    })
+    let inputs = [key, nonce, header, message];
+    seal_or_open(Call::Seal, mode, rounds, inputs, output)
 }
 
 /// Verifies and decrypts `parcel` and writes its message to the first `parcel.len() - TAG_LEN`
@@ -166,23 +151,8 @@ pub fn open(
     parcel: &[u8],
     output: &mut [u8],
 ) -> Result<usize, Refusal> {
-    // SAFETY: each pointer is valid for its length, and a mutable borrow overlaps no other.
-    result(unsafe {
-        ffi::calmbaize_open(
-            mode as u32,
-            rounds,
-            key.as_ptr(),
-            key.len(),
-            nonce.as_ptr(),
-            nonce.len(),
-            header.as_ptr(),
-            header.len(),
-            parcel.as_ptr(),
-            parcel.len(),
-            output.as_mut_ptr(),
-            output.len(),
-        )
-    })
+    let inputs = [key, nonce, header, parcel];
+    seal_or_open(Call::Open, mode, rounds, inputs, output)
 }
 
 /// Writes the block reached from `start` by the step bytes `steps` to the first [`BLOCK_LEN`]
@@ -257,6 +227,42 @@ pub fn jump(
             alpha,
             beta,
             gamma,
+            output.as_mut_ptr(),
+            output.len(),
+        )
+    })
+}
+
+/// The two calls that take the same arguments.
+enum Call {
+    Seal,
+    Open,
+}
+
+fn seal_or_open(
+    call: Call,
+    mode: Mode,
+    rounds: u32,
+    [key, nonce, header, input]: [&[u8]; 4],
+    output: &mut [u8],
+) -> Result<usize, Refusal> {
+    let function = match call {
+        Call::Seal => ffi::calmbaize_seal,
+        Call::Open => ffi::calmbaize_open,
+    };
+    // SAFETY: each pointer is valid for its length, and a mutable borrow overlaps no other.
+    result(unsafe {
+        function(
+            mode as u32,
+            rounds,
+            key.as_ptr(),
+            key.len(),
+            nonce.as_ptr(),
+            nonce.len(),
+            header.as_ptr(),
+            header.len(),
+            input.as_ptr(),
+            input.len(),
             output.as_mut_ptr(),
             output.len(),
         )

@@ -118,8 +118,11 @@ fn execute(command: &Command, args: impl Iterator<Item = OsString>) -> Result<()
         let digits: String = output.iter().map(|byte| format!("{byte:02x}")).collect();
         output = (digits + "\n").into_bytes();
     }
-    files::write(options.value("--output").map(OsString::as_os_str), &output)
+    files::write(options.value("--output"), &output)
 }
+
+/// The type of seal and open in the library.
+type Sealing = fn(Mode, u32, &[u8], &[u8], &[u8], &[u8], &mut [u8]) -> Result<usize, Refusal>;
 
 /// The settings of seal and open.
 struct Settings {
@@ -149,36 +152,34 @@ impl Settings {
             header: header.unwrap_or_default(),
         })
     }
+
+    /// The `output_len` bytes that `call` writes for `input`.
+    fn run(&self, call: Sealing, input: &[u8], output_len: usize) -> Result<Vec<u8>, Failure> {
+        let mut output = vec![0; output_len];
+        call(
+            self.mode,
+            self.rounds,
+            &self.key,
+            &self.nonce,
+            &self.header,
+            input,
+            &mut output,
+        )?;
+        Ok(output)
+    }
 }
 
 fn seal(options: &Options) -> Result<Vec<u8>, Failure> {
     let settings = Settings::new(options)?;
     let message = input(options, MAX_MESSAGE_LEN)?;
-    let mut parcel = vec![0; message.len() + TAG_LEN];
-    let Settings {
-        mode,
-        rounds,
-        key,
-        nonce,
-        header,
-    } = settings;
-    calmbaize::seal(mode, rounds, &key, &nonce, &header, &message, &mut parcel)?;
-    Ok(parcel)
+    settings.run(calmbaize::seal, &message, message.len() + TAG_LEN)
 }
 
 fn open(options: &Options) -> Result<Vec<u8>, Failure> {
     let settings = Settings::new(options)?;
     let parcel = input(options, MAX_MESSAGE_LEN + TAG_LEN)?;
-    let mut message = vec![0; parcel.len().saturating_sub(TAG_LEN)];
-    let Settings {
-        mode,
-        rounds,
-        key,
-        nonce,
-        header,
-    } = settings;
-    calmbaize::open(mode, rounds, &key, &nonce, &header, &parcel, &mut message)?;
-    Ok(message)
+    let message_len = parcel.len().saturating_sub(TAG_LEN);
+    settings.run(calmbaize::open, &parcel, message_len)
 }
 
 fn walk(options: &Options) -> Result<Vec<u8>, Failure> {
@@ -208,7 +209,7 @@ fn start(options: &Options) -> Result<Vec<u8>, Failure> {
 }
 
 fn input(options: &Options, limit: usize) -> Result<Vec<u8>, Failure> {
-    files::read(options.value("--input").map(OsString::as_os_str), limit)
+    files::read(options.value("--input"), limit)
 }
 
 /// Bytes from one of two options: hexadecimal, or a file.

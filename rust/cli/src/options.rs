@@ -1,7 +1,7 @@
 //! The options of a command line.
 
 use crate::Failure;
-use std::ffi::OsString;
+use std::ffi::{OsStr, OsString};
 
 /// Names of one letter, and the long names they stand for.
 const SHORT: [(&str, &str); 13] = [
@@ -63,9 +63,9 @@ impl Options {
     }
 
     /// The value of an option, if it is given.
-    pub fn value(&self, name: &str) -> Option<&OsString> {
+    pub fn value(&self, name: &str) -> Option<&OsStr> {
         let found = self.given.iter().find(|(other, _)| other == name);
-        found.map(|(_, value)| value)
+        found.map(|(_, value)| value.as_os_str())
     }
 
     /// Whether an option is given.

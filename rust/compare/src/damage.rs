@@ -48,7 +48,8 @@ pub fn run(library: &Library, seed: u64) -> Tally {
 
 fn all_kinds(prng: &mut Prng, check: &mut Check, mode: u32, rounds: u32, len: usize) {
     for header_len in [0, 5, 128, 200] {
-        let (good, message) = sealed(prng, check, mode, rounds, header_len, len);
+        let seal = Call::seal(prng, mode, rounds, header_len, len);
+        let (good, message) = sealed(check, seal);
         let (answer, opened) = check.compare(&good);
         let passed = answer == len as u64 && opened[..len] == message;
         check.record(passed, || format!("{good}: the message does not come back"));
@@ -58,7 +59,7 @@ fn all_kinds(prng: &mut Prng, check: &mut Check, mode: u32, rounds: u32, len: us
                 continue;
             }
             let (answer, opened) = check.compare(&call);
-            let cleared = opened[..call.inputs[3].len() - 32]
+            let cleared = opened[..ciphertext_len(&call)]
                 .iter()
                 .all(|&byte| byte == 0);
             let passed = answer == refusal(9, 0) && cleared;
@@ -69,7 +70,7 @@ fn all_kinds(prng: &mut Prng, check: &mut Check, mode: u32, rounds: u32, len: us
 
 /// Each of the 256 bits of a tag counts.
 fn every_tag_bit(prng: &mut Prng, check: &mut Check, mode: u32, rounds: u32) {
-    let (good, message) = sealed(prng, check, mode, rounds, 9, 150);
+    let (good, message) = sealed(check, Call::seal(prng, mode, rounds, 9, 150));
     for bit in 0..256 {
         let mut call = good.clone();
         call.inputs[3][message.len() + bit / 8] ^= 1 << (bit % 8);
@@ -78,34 +79,12 @@ fn every_tag_bit(prng: &mut Prng, check: &mut Check, mode: u32, rounds: u32) {
     }
 }
 
-/// An open call for a parcel that `library` seals, and its message.
-fn sealed(
-    prng: &mut Prng,
-    check: &mut Check,
-    mode: u32,
-    rounds: u32,
-    header_len: usize,
-    len: usize,
-) -> (Call, Vec<u8>) {
-    let message = prng.bytes(len);
-    let (key, nonce, header) = (prng.bytes(32), prng.bytes(16), prng.bytes(header_len));
-    let seal = Call {
-        entry: Entry::Seal { mode, rounds },
-        inputs: vec![key, nonce, header, message.clone()],
-        output_len: len + 32,
-    };
+/// An open call for the parcel that the library seals in `seal`, and its message.
+fn sealed(check: &mut Check, seal: Call) -> (Call, Vec<u8>) {
     let (_, parcel) = check.compare(&seal);
-    let mut inputs = seal.inputs;
-    inputs[3] = parcel;
-    let entry = Entry::Open { mode, rounds };
-    (
-        Call {
-            entry,
-            inputs,
-            output_len: len + 200,
-        },
-        message,
-    )
+    let message = seal.inputs[3].clone();
+    let open = seal.into_open(parcel, message.len() + 200);
+    (open, message)
 }
 
 /// Bytes of the ciphertext of an open call.

@@ -1,6 +1,6 @@
 //! All lengths around the edges of blocks and of the limits.
 
-use crate::library::{Call, Entry, Library};
+use crate::library::{Call, Library};
 use crate::prng::Prng;
 use crate::report::{Check, Tally};
 
@@ -16,23 +16,9 @@ pub fn run(library: &Library, seed: u64) -> Tally {
     let mut check = Check::new(library);
     for mode in [1, 2] {
         for rounds in [4, 6] {
-            for len in (0..=400).chain(LONG) {
-                seal_and_open(&mut prng, &mut check, mode, rounds, len % 300, len);
-            }
-            for header_len in (0..=300).chain(HEADERS) {
-                seal_and_open(
-                    &mut prng,
-                    &mut check,
-                    mode,
-                    rounds,
-                    header_len,
-                    header_len % 300,
-                );
-            }
-            for header_len in HEADERS {
-                for len in [0, 1, 127, 128, 129, 255, 256, 257] {
-                    seal_and_open(&mut prng, &mut check, mode, rounds, header_len, len);
-                }
+            for (header_len, len) in lengths() {
+                let seal = Call::seal(&mut prng, mode, rounds, header_len, len);
+                seal_and_open(&mut prng, &mut check, seal);
             }
             short_parcels(&mut prng, &mut check, mode, rounds);
         }
@@ -42,58 +28,47 @@ pub fn run(library: &Library, seed: u64) -> Tally {
     check.tally
 }
 
-fn seal_and_open(
-    prng: &mut Prng,
-    check: &mut Check,
-    mode: u32,
-    rounds: u32,
-    header_len: usize,
-    len: usize,
-) {
-    let (key, nonce, header) = (prng.bytes(32), prng.bytes(16), prng.bytes(header_len));
-    let mut call = Call {
-        entry: Entry::Seal { mode, rounds },
-        inputs: vec![key, nonce, header, prng.bytes(len)],
-        output_len: 0,
-    };
+/// Lengths of headers and messages, one by one and in pairs.
+fn lengths() -> impl Iterator<Item = (usize, usize)> {
+    let messages = (0..=400).chain(LONG).map(|len| (len % 300, len));
+    let headers = (0..=300).chain(HEADERS).map(|len| (len, len % 300));
+    let pairs = HEADERS
+        .into_iter()
+        .flat_map(|header_len| [0, 1, 127, 128, 129, 255, 256, 257].map(|len| (header_len, len)));
+    messages.chain(headers).chain(pairs)
+}
+
+fn seal_and_open(prng: &mut Prng, check: &mut Check, mut seal: Call) {
+    let len = seal.inputs[3].len();
     let mut parcel = Vec::new();
     for output_len in [len + 31, len + 33, len + 100, len + 32] {
-        call.output_len = output_len;
-        (_, parcel) = check.compare(&call);
+        seal.output_len = output_len;
+        (_, parcel) = check.compare(&seal);
     }
-    call.entry = Entry::Open { mode, rounds };
-    call.inputs[3] = parcel;
+    let mut open = seal.into_open(parcel, 0);
     for output_len in [len.saturating_sub(1), len, len + 1, len + 100] {
-        call.output_len = output_len;
-        check.compare(&call);
+        open.output_len = output_len;
+        check.compare(&open);
     }
     let at = prng.below(len + 32);
-    call.inputs[3][at] ^= 4;
-    check.compare(&call);
+    open.inputs[3][at] ^= 4;
+    check.compare(&open);
 }
 
 /// Parcels of 0 to 33 bytes that nobody sealed.
 fn short_parcels(prng: &mut Prng, check: &mut Check, mode: u32, rounds: u32) {
     for len in 0..=33 {
-        let (key, nonce, header) = (prng.bytes(32), prng.bytes(16), prng.bytes(3));
-        let call = Call {
-            entry: Entry::Open { mode, rounds },
-            inputs: vec![key, nonce, header, prng.bytes(len)],
-            output_len: 40,
-        };
-        check.compare(&call);
+        let seal = Call::seal(prng, mode, rounds, 3, len);
+        let parcel = seal.inputs[3].clone();
+        check.compare(&seal.into_open(parcel, 40));
     }
 }
 
 fn walks(prng: &mut Prng, check: &mut Check) {
     for len in (0..=40).chain([127, 128, 4095, 4096, 4097]) {
         for output_len in [0, 127, 128, 129, 300] {
-            let steps = (0..len).map(|_| 1 + prng.below(6) as u8).collect();
-            let mut call = Call {
-                entry: Entry::Walk,
-                inputs: vec![prng.bytes(128), steps],
-                output_len,
-            };
+            let steps = prng.steps(len);
+            let mut call = Call::walk(prng.bytes(128), steps, output_len);
             check.compare(&call);
             for bad in [0, 7, 128, 255] {
                 if let Some(last) = call.inputs[1].last_mut() {
@@ -104,12 +79,7 @@ fn walks(prng: &mut Prng, check: &mut Check) {
         }
     }
     for start_len in [0, 1, 64, 127, 129, 256] {
-        let inputs = vec![prng.bytes(start_len), vec![1]];
-        check.compare(&Call {
-            entry: Entry::Walk,
-            inputs,
-            output_len: 128,
-        });
+        check.compare(&Call::walk(prng.bytes(start_len), vec![1], 128));
     }
 }
 
@@ -135,22 +105,11 @@ fn jumps(prng: &mut Prng, check: &mut Check) {
             for output_len in [127, 128, 200] {
                 let mut counts = [0; 3];
                 counts[kind] = count;
-                let inputs = vec![prng.bytes(128)];
-                check.compare(&Call {
-                    entry: Entry::Jump { counts },
-                    inputs,
-                    output_len,
-                });
+                check.compare(&Call::jump(prng.bytes(128), counts, output_len));
             }
         }
     }
     for start_len in [0, 127, 129] {
-        let inputs = vec![prng.bytes(start_len)];
-        let entry = Entry::Jump { counts: [1, 1, 1] };
-        check.compare(&Call {
-            entry,
-            inputs,
-            output_len: 128,
-        });
+        check.compare(&Call::jump(prng.bytes(start_len), [1; 3], 128));
     }
 }

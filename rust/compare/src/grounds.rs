@@ -54,35 +54,16 @@ pub fn run(library: &Library, seed: u64) -> Tally {
     let mut prng = Prng::new(seed);
     let mut check = Check::new(library);
     for mode in [1, 2] {
-        let seal = Call {
-            entry: Entry::Seal { mode, rounds: 4 },
-            inputs: vec![
-                prng.bytes(32),
-                prng.bytes(16),
-                prng.bytes(40),
-                prng.bytes(70),
-            ],
-            output_len: 102,
-        };
+        let seal = Call::seal(&mut prng, mode, 4, 40, 70);
         all_sets(&mut check, &SEAL, &seal);
         let (_, parcel) = check.compare(&seal);
-        let mut open = seal.clone();
-        open.entry = Entry::Open { mode, rounds: 4 };
-        open.inputs[3] = parcel;
+        let open = seal.into_open(parcel, 102);
         all_sets(&mut check, &OPEN, &open);
         all_sets(&mut check, &OPEN_SHORT, &open);
     }
-    let walk = Call {
-        entry: Entry::Walk,
-        inputs: vec![prng.bytes(128), vec![1, 5, 6]],
-        output_len: 128,
-    };
+    let walk = Call::walk(prng.bytes(128), vec![1, 5, 6], 128);
     all_sets(&mut check, &WALK, &walk);
-    let jump = Call {
-        entry: Entry::Jump { counts: [1, -2, 3] },
-        inputs: vec![prng.bytes(128)],
-        output_len: 128,
-    };
+    let jump = Call::jump(prng.bytes(128), [1, -2, 3], 128);
     all_sets(&mut check, &JUMP, &jump);
     check.tally
 }

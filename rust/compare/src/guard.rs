@@ -3,7 +3,7 @@
 //! A byte read or written outside ends the program by a signal, so the calls run in a child
 //! process, which names each call before it makes it.
 
-use crate::library::{expected, Call, Entry, Library};
+use crate::library::{expected, Call, Library};
 use crate::prng::Prng;
 use crate::report::{pattern, Tally};
 use std::ffi::c_void;
@@ -153,81 +153,35 @@ fn calls() -> Vec<Call> {
                 0, 1, 7, 8, 9, 13, 127, 128, 129, 255, 256, 257, 4096, 65_535, 65_536,
             ] {
                 for header_len in [0, 1, 127, 128, 129, 4096, 4097] {
-                    sealing(&mut prng, &mut calls, mode, rounds, header_len, len);
+                    let seal = Call::seal(&mut prng, mode, rounds, header_len, len);
+                    sealing(&mut calls, seal);
                 }
             }
         }
     }
     for len in [0, 1, 2, 100, 4096, 4097] {
         for output_len in [0, 127, 128, 129] {
-            let steps = (0..len).map(|_| 1 + prng.below(6) as u8).collect();
-            let inputs = vec![prng.bytes(128), steps];
-            calls.push(Call {
-                entry: Entry::Walk,
-                inputs,
-                output_len,
-            });
-            let (entry, inputs) = (
-                Entry::Jump {
-                    counts: [3, -2, -1],
-                },
-                vec![prng.bytes(128)],
-            );
-            calls.push(Call {
-                entry,
-                inputs,
-                output_len,
-            });
+            let steps = prng.steps(len);
+            calls.push(Call::walk(prng.bytes(128), steps, output_len));
+            calls.push(Call::jump(prng.bytes(128), [3, -2, -1], output_len));
         }
     }
     for start_len in [0, 1, 127, 129] {
         let start = prng.bytes(start_len);
-        let inputs = vec![start.clone(), vec![1, 2]];
-        calls.push(Call {
-            entry: Entry::Walk,
-            inputs,
-            output_len: 128,
-        });
-        let (entry, inputs) = (Entry::Jump { counts: [1; 3] }, vec![start]);
-        calls.push(Call {
-            entry,
-            inputs,
-            output_len: 128,
-        });
+        calls.push(Call::walk(start.clone(), vec![1, 2], 128));
+        calls.push(Call::jump(start, [1; 3], 128));
     }
     calls
 }
 
 /// A seal call, one with too short an output, an open of the parcel, and one of a damaged parcel.
-fn sealing(
-    prng: &mut Prng,
-    calls: &mut Vec<Call>,
-    mode: u32,
-    rounds: u32,
-    header_len: usize,
-    len: usize,
-) {
-    let inputs = vec![
-        prng.bytes(32),
-        prng.bytes(16),
-        prng.bytes(header_len),
-        prng.bytes(len),
-    ];
-    let mut call = Call {
-        entry: Entry::Seal { mode, rounds },
-        inputs,
-        output_len: len + 32,
-    };
-    let mut parcel = vec![0; len + 32];
-    let inputs: Vec<&[u8]> = call.inputs.iter().map(Vec::as_slice).collect();
-    expected(call.entry, &inputs, &mut parcel);
-    calls.push(call.clone());
-    call.output_len -= 1;
-    calls.push(call.clone());
-    call.entry = Entry::Open { mode, rounds };
-    call.inputs[3] = parcel;
-    call.output_len = len;
-    calls.push(call.clone());
-    call.inputs[3][len / 2] ^= 1;
-    calls.push(call);
+fn sealing(calls: &mut Vec<Call>, mut seal: Call) {
+    let (parcel, len) = (seal.parcel(), seal.inputs[3].len());
+    calls.push(seal.clone());
+    seal.output_len -= 1;
+    calls.push(seal.clone());
+    let mut open = seal.into_open(parcel, len);
+    calls.push(open.clone());
+    open.inputs[3][len / 2] ^= 1;
+    calls.push(open);
 }

@@ -1,5 +1,6 @@
 //! Implementations with the C interface, and the second implementation behind the same face.
 
+use crate::prng::Prng;
 use baseline::Sealing;
 use std::fmt;
 
@@ -52,6 +53,61 @@ pub struct Call {
     pub entry: Entry,
     pub inputs: Vec<Vec<u8>>,
     pub output_len: usize,
+}
+
+impl Call {
+    /// A seal call of random buffers. Its output is as long as the parcel.
+    pub fn seal(prng: &mut Prng, mode: u32, rounds: u32, header_len: usize, len: usize) -> Self {
+        let buffers = [32, 16, header_len, len].map(|len| prng.bytes(len));
+        Self {
+            entry: Entry::Seal { mode, rounds },
+            inputs: buffers.into(),
+            output_len: len + 32,
+        }
+    }
+
+    /// This seal call turned into one that opens `parcel` under the same settings.
+    pub fn into_open(mut self, parcel: Vec<u8>, output_len: usize) -> Self {
+        let Entry::Seal { mode, rounds } = self.entry else {
+            panic!("{self} does not seal");
+        };
+        self.inputs[3] = parcel;
+        Self {
+            entry: Entry::Open { mode, rounds },
+            inputs: self.inputs,
+            output_len,
+        }
+    }
+
+    /// A walk call.
+    pub fn walk(start: Vec<u8>, steps: Vec<u8>, output_len: usize) -> Self {
+        Self {
+            entry: Entry::Walk,
+            inputs: vec![start, steps],
+            output_len,
+        }
+    }
+
+    /// A jump call.
+    pub fn jump(start: Vec<u8>, counts: [i32; 3], output_len: usize) -> Self {
+        Self {
+            entry: Entry::Jump { counts },
+            inputs: vec![start],
+            output_len,
+        }
+    }
+
+    /// The input buffers as they are lent.
+    pub fn slices(&self) -> Vec<&[u8]> {
+        self.inputs.iter().map(Vec::as_slice).collect()
+    }
+
+    /// What the second implementation seals in a seal call, however short its output is.
+    pub fn parcel(&self) -> Vec<u8> {
+        let mut parcel = vec![0; self.inputs[3].len() + 32];
+        expected(self.entry, &self.slices(), &mut parcel);
+        parcel
+    }
 }
 
 impl fmt::Display for Call {

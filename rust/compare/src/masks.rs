@@ -14,7 +14,7 @@ pub fn run(library: &Library, seed: u64) -> Tally {
     for n in 0..300 {
         let len = if n % 30 == 0 { 4096 } else { prng.below(60) };
         let start = prng.bytes(128);
-        let mut steps: Vec<u8> = (0..len).map(|_| 1 + prng.below(6) as u8).collect();
+        let mut steps = prng.steps(len);
         let reached = walk(library, &start, &steps);
         let counts = net_counts(&steps);
         let jumped = block(library, Entry::Jump { counts }, &[&start]);

@@ -41,6 +41,11 @@ impl Prng {
         bytes
     }
 
+    /// `len` random step bytes.
+    pub fn steps(&mut self, len: usize) -> Vec<u8> {
+        (0..len).map(|_| 1 + self.below(6) as u8).collect()
+    }
+
     /// `items` in another order.
     pub fn shuffle<T>(&mut self, items: &mut [T]) {
         for last in (1..items.len()).rev() {

@@ -1,7 +1,7 @@
 //! Random calls over all four entry points: long and short, valid, refused and damaged.
 
 use crate::damage;
-use crate::library::{expected, Call, Entry, Library};
+use crate::library::{Call, Entry, Library};
 use crate::prng::Prng;
 use crate::report::{Check, Tally};
 use std::collections::BTreeMap;
@@ -58,18 +58,9 @@ fn random_seal(prng: &mut Prng) -> Call {
 /// A parcel that was sealed, half of the time damaged or opened under other settings.
 fn random_open(prng: &mut Prng) -> Call {
     let sealing = random_seal(prng);
-    let inputs: Vec<&[u8]> = sealing.inputs.iter().map(Vec::as_slice).collect();
-    let mut parcel = vec![0; sealing.inputs[3].len() + 32];
-    expected(sealing.entry, &inputs, &mut parcel);
-    let Entry::Seal { mode, rounds } = sealing.entry else {
-        panic!("a seal call");
-    };
-    let mut call = Call {
-        entry: Entry::Open { mode, rounds },
-        inputs: sealing.inputs,
-        output_len: output_length(prng, parcel.len() - 32),
-    };
-    call.inputs[3] = parcel;
+    let parcel = sealing.parcel();
+    let output_len = output_length(prng, parcel.len() - 32);
+    let mut call = sealing.into_open(parcel, output_len);
     if prng.once_in(2) {
         damage::random(prng, &mut call);
     }
@@ -85,19 +76,15 @@ fn random_walk(prng: &mut Prng) -> Call {
     if prng.once_in(20) {
         len = length(prng, 4096);
     }
-    let mut steps: Vec<u8> = (0..len).map(|_| 1 + prng.below(6) as u8).collect();
+    let mut steps = prng.steps(len);
     if len > 0 && prng.once_in(5) {
         for _ in 0..=prng.below(2) {
             let place = prng.below(len);
             steps[place] = prng.pick(&[0, 7, 8, 255]);
         }
     }
-    let inputs = vec![exact_length_bytes(prng, 128), steps];
-    Call {
-        entry: Entry::Walk,
-        inputs,
-        output_len: output_length(prng, 128),
-    }
+    let start = exact_length_bytes(prng, 128);
+    Call::walk(start, steps, output_length(prng, 128))
 }
 
 fn random_jump(prng: &mut Prng) -> Call {
@@ -110,12 +97,8 @@ fn random_jump(prng: &mut Prng) -> Call {
             *count = prng.pick(&[65_536, -65_536, 65_537, -65_537, i32::MAX, i32::MIN]);
         }
     }
-    let inputs = vec![exact_length_bytes(prng, 128)];
-    Call {
-        entry: Entry::Jump { counts },
-        inputs,
-        output_len: output_length(prng, 128),
-    }
+    let start = exact_length_bytes(prng, 128);
+    Call::jump(start, counts, output_length(prng, 128))
 }
 
 fn random_settings(prng: &mut Prng) -> (u32, u32) {

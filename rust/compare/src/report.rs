@@ -49,7 +49,7 @@ impl<'a> Check<'a> {
     /// Makes `call` and compares the answer and every byte with the second implementation. Returns
     /// the answer and the output.
     pub fn compare(&mut self, call: &Call) -> (u64, Vec<u8>) {
-        let inputs: Vec<&[u8]> = call.inputs.iter().map(Vec::as_slice).collect();
+        let inputs = call.slices();
         let before = call.inputs.clone();
         let mut wanted = pattern(call.output_len + 2 * MARGIN);
         let mut found = wanted.clone();

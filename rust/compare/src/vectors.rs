@@ -91,10 +91,7 @@ fn sealing_limits(check: &mut Check) {
             let buffers = [key, 16, header, message].map(|len| vec![7; len]);
             let inputs: Vec<&[u8]> = buffers.iter().map(Vec::as_slice).collect();
             let entry = Entry::Seal { mode, rounds };
-            let answer = check
-                .library
-                .call(entry, &inputs, &mut pattern(output), false);
-            check.record(answer == wanted, || format!("{name}: {answer:#x}"));
+            answers(check, name, entry, &inputs, &mut pattern(output), wanted);
         }
         // Zero key and nonce, so a tag of zeros opens as the empty message.
         for (name, parcel, wanted) in [
@@ -104,8 +101,7 @@ fn sealing_limits(check: &mut Check) {
         ] {
             let inputs: [&[u8]; 4] = [&[0; 32], &[0; 16], &[], &parcel];
             let entry = Entry::Open { mode, rounds: 4 };
-            let answer = check.library.call(entry, &inputs, &mut [], false);
-            check.record(answer == wanted, || format!("{name}: {answer:#x}"));
+            answers(check, name, entry, &inputs, &mut [], wanted);
         }
     }
 }
@@ -117,19 +113,28 @@ fn mask_limits(check: &mut Check) {
             for count in [count, -count] {
                 let mut counts = [0; 3];
                 counts[kind] = count;
+                let name = format!("a net count of {count}");
                 let entry = Entry::Jump { counts };
-                let answer = check.library.call(entry, &[&[9; 128]], &mut output, false);
-                check.record(answer == wanted, || {
-                    format!("a net count of {count}: {answer:#x}")
-                });
+                answers(check, &name, entry, &[&[9; 128]], &mut output, wanted);
             }
         }
     }
     let inputs: [&[u8]; 2] = [&[9; 128], &[1, 7, 0]];
-    let answer = check.library.call(Entry::Walk, &inputs, &mut output, false);
-    check.record(answer == refusal(12, 1), || {
-        format!("steps 1, 7, 0: {answer:#x}")
-    });
+    let (name, wanted) = ("steps 1, 7, 0", refusal(12, 1));
+    answers(check, name, Entry::Walk, &inputs, &mut output, wanted);
+}
+
+/// Counts whether a call answers `wanted`.
+fn answers(
+    check: &mut Check,
+    name: &str,
+    entry: Entry,
+    inputs: &[&[u8]],
+    output: &mut [u8],
+    wanted: u64,
+) {
+    let answer = check.library.call(entry, inputs, output, false);
+    check.record(answer == wanted, || format!("{name}: {answer:#x}"));
 }
 
 /// The bytes of the block with these words, the others zero.

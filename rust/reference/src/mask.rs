@@ -93,6 +93,10 @@ mod tests {
         block
     }
 
+    fn sample() -> Block {
+        std::array::from_fn(|i| 0x0123_4567_89ab_cdef_u64.rotate_left(i as u32))
+    }
+
     #[test]
     fn p3_to_p6_alpha() {
         assert_eq!(
@@ -121,7 +125,7 @@ mod tests {
 
     #[test]
     fn back_steps_undo() {
-        let block: Block = std::array::from_fn(|i| 0x0123_4567_89ab_cdef_u64.rotate_left(i as u32));
+        let block = sample();
         for kind in 1..=3 {
             assert_eq!(step(kind + 3, &step(kind, &block)), block);
             assert_eq!(step(kind, &step(kind + 3, &block)), block);
@@ -130,7 +134,7 @@ mod tests {
 
     #[test]
     fn jumps_are_steps() {
-        let block: Block = std::array::from_fn(|i| 0x0123_4567_89ab_cdef_u64.rotate_left(i as u32));
+        let block = sample();
         let walked = [4, 4, 4, 2, 2, 6]
             .iter()
             .fold(block, |block, &s| step(s, &block));
@@ -146,7 +150,7 @@ mod tests {
 
     #[test]
     fn lists_are_jumps() {
-        let block: Block = std::array::from_fn(|i| 0x0123_4567_89ab_cdef_u64.rotate_left(i as u32));
+        let block = sample();
         for (i, mask) in list(&block, 40, 2, 1).into_iter().enumerate() {
             assert_eq!(mask, jump([i as i32, 2, 1], block));
         }
