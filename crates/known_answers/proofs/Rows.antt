@@ -17,7 +17,7 @@ use Rattle.opp.specs.Opp.{padded, headerAt, oppSum, oppCheck, oppTag, sealAt, o
 use Rattle.mro.specs.Mro.{blocks, absorbAt, mroSum, lengths, mroTag, counter, mroStream, streamed, mroCipher}
 use Rattle.sealing.specs.Sealing.{tagOf, cipherOf, parcelOf}
 use Rattle.blockplan.proofs.Plans.{same-true}
-use Rattle.known_answers.specs.KnownAnswers.{Row, word, g, full, sealed, table, right, Holds}
+use Rattle.known_answers.specs.KnownAnswers.{Row, word, g, full, sealed, table, right, KnownAnswers}
 
 both : (a b : Bool) → (a && b) ≡ true → (a ≡ true) × (b ≡ true)
 both true b e = (refl, e)
@@ -34,5 +34,5 @@ computed : right table ≡ true
 unfolding right table same word g full sealed zeroBlock tab cat fold times zeros le lowBytes wordAt blockOf wordBytes bytesOf xorBytes perm startBlock startOf maskAt under encipher whole left hasLeft blockAt xorOver xorIf ciphered tagBytes padded headerAt oppSum oppCheck oppTag sealAt oppStream oppCipher blocks absorbAt mroSum lengths mroTag counter mroStream streamed mroCipher tagOf cipherOf parcelOf gOf half addW rotR rotL shl round over groups gAt stepAt pick put alpha alphaW beta gamma xorBlock xorAt unAlpha
 computed = refl
 
-pub known-answers : Holds table
+pub known-answers : KnownAnswers
 known-answers = record { row = holds table computed }

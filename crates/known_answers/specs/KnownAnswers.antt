@@ -63,6 +63,6 @@ unfoldable pub right : List Row → Bool
 right [] = true
 right (row ∷ rows) = same (row .got) (row .want) && right rows
 
--- what the test says of each row
-pub record Holds (rows : List Row) : Type 0 where
-  pub row : (i : ℕ) → i < length rows → getD rows i (record { got = []; want = [] }) .got ≡ getD rows i (record { got = []; want = [] }) .want
+-- each row of the table holds: what the definitions give is what the bench sheet has
+pub record KnownAnswers : Type 0 where
+  pub row : (i : ℕ) → i < length table → getD table i (record { got = []; want = [] }) .got ≡ getD table i (record { got = []; want = [] }) .want

@@ -1,4 +1,4 @@
--- The three mask steps (document 01, "Masks"), and what a step with its back step has to meet. Assumes nothing.
+-- The three mask steps (document 01, "Masks"), and what a back step has to be. Assumes nothing.
 use mathlib.Core.Path.{_≡_}
 use mathlib.Core.List.{List, [], _∷_, _++_}
 use Prim.Native.Nat.{ℕ}
@@ -28,11 +28,3 @@ pub record OnlyBlock (forward : List ℕ → List ℕ) (s r : List ℕ) : Type 0
   pub block : Block r
   pub leads : forward r ≡ s
   pub only : (t : List ℕ) → Block t → forward t ≡ s → t ≡ r
-
--- a step and its back step: both keep blocks, each undoes the other, and the step keeps exclusive or
-pub record Step (forward back : List ℕ → List ℕ) : Type 0 where
-  pub on : (s : List ℕ) → Block s → Block (forward s)
-  pub off : (s : List ℕ) → Block s → Block (back s)
-  pub undo : (s : List ℕ) → Block s → back (forward s) ≡ s
-  pub redo : (s : List ℕ) → Block s → forward (back s) ≡ s
-  pub linear : (s t : List ℕ) → Block s → Block t → forward (xorBlock s t) ≡ xorBlock (forward s) (forward t)

@@ -1,5 +1,5 @@
-// The back steps: each gives the only block whose forward step gives the block at hand. No branch and no
-// place in memory depends on a word's value.
+// The back steps: each gives the only block whose forward step gives the block at hand. In this text no
+// branch and no index depends on a word's value.
 use crate::tables::BETA;
 use crate::tables::GAMMA;
 use words::word::rotate_right;

@@ -4,8 +4,9 @@ use mathlib.Core.List.{List, [], _∷_, flatten}
 use Prim.Native.Nat.{ℕ}
 use Rattle.maskwalk_text.specs.declared.Scan.{Scan}
 use Rattle.maskwalk_text.specs.declared.Scan.the-variants.{Reading}
-use Rattle.maskwalk_text.specs.Scan.{fed, feeds, report, written}
-use Rattle.maskwalk_text.specs.Whole.{Whole, afterParts}
+use Rattle.maskwalk_text.specs.Text.{written}
+use Rattle.maskwalk_text.specs.Scan.{fed, report}
+use Rattle.maskwalk_text.specs.Whole.{Whole, feeds, afterParts}
 use Rattle.maskwalk_text.proofs.Scanning.{fed-append, fed-shut, scanned}
 
 -- the parts one after another are one part

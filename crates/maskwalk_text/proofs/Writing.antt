@@ -7,8 +7,7 @@ use native.Mathlib.Omega.{arith}
 use lib.ListN.{length, getD, take, drop, set, length-append, length-drop}
 use lib.Seq.{drop-cons, take-suc, set-at, append-snoc, getD-set-same, drop-set-lt, lt-length-set, length-take-le}
 use Rattle.words.proofs.Lists.{length-cat}
-use Rattle.maskwalk_text.specs.Text.{digit, digits, line, lines}
-use Rattle.maskwalk_text.specs.Scan.{written}
+use Rattle.maskwalk_text.specs.Text.{digit, digits, line, lines, written}
 
 -- from the place of a store on
 pub drop-set : (i v : ℕ) (out : List ℕ) → i < length out → drop i (set out i v) ≡ v ∷ drop (suc i) out

@@ -1,10 +1,10 @@
 -- The same text from an input that comes in parts: what is kept between two parts, and what is printed at the end; no passage of document 01.
 -- A buffer of 4,224 bytes holds the 128 of the start and a step byte for each of 4,096 letters; a count of 4,225 stands for more. Assumes nothing.
 use mathlib.Core.Bool.{Bool, true, false, cond}
-use mathlib.Core.List.{List, [], _∷_, _++_}
+use mathlib.Core.List.{List, [], _∷_}
 use Prim.Native.Nat.{ℕ, _+_, _-_}
 use lib.Dec.{ltb, eqb}
-use lib.ListN.{length, take, drop, set}
+use lib.ListN.{take, drop, set}
 use Rattle.words.specs.Block.{blockOf}
 use Rattle.walking.specs.Walking.{walked}
 use Rattle.maskwalk_text.specs.declared.Scan.{Scan}
@@ -41,11 +41,6 @@ unfoldable pub fed : List ℕ → Scan → List ℕ → Scan × List ℕ
 fed [] s held = (s, held)
 fed (b ∷ bs) s held = let next = takeByte s b held in fed bs (next .0) (next .1)
 
--- the parts of an input, one after another
-unfoldable pub feeds : List (List ℕ) → Scan → List ℕ → Scan × List ℕ
-feeds [] s held = (s, held)
-feeds (part ∷ parts) s held = let next = fed part s held in feeds parts (next .0) (next .1)
-
 -- the text where n bytes are held
 unfoldable pub counted : ℕ → List ℕ → List ℕ
 counted n held =
@@ -58,7 +53,3 @@ unfoldable pub report : Scan → List ℕ → List ℕ
 report (Reading n) held = counted n held
 report (Ended n) held = counted n held
 report Wrong held = letter
-
--- a text written to the front of the output, and its length; output beyond it is unchanged
-unfoldable pub written : List ℕ → List ℕ → ℕ × List ℕ
-written text out = (length text, text ++ drop (length text) out)

@@ -73,3 +73,7 @@ textOf input =
     (cond (not (allLetters (letters input))) letter
     (cond (ltb 4096 (length (letters input))) long
     (lines (walked (map stepOf (letters input)) (blockOf (start input))))))
+
+-- a text written to the front of the output, and its length; output beyond it is unchanged
+unfoldable pub written : List ℕ → List ℕ → ℕ × List ℕ
+written text out = (length text, text ++ drop (length text) out)

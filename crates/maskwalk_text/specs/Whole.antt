@@ -1,13 +1,18 @@
 -- The promise of the scan: its parts do not matter; no passage of document 01. Assumes nothing.
 use mathlib.Core.Path.{_≡_}
 use mathlib.Core.Bool.{false}
-use mathlib.Core.List.{List, flatten}
+use mathlib.Core.List.{List, [], _∷_, flatten}
 use Prim.Native.Nat.{ℕ}
 use lib.ListN.{length}
 use Rattle.maskwalk_text.specs.declared.Scan.{Scan}
 use Rattle.maskwalk_text.specs.declared.Scan.the-variants.{Reading}
-use Rattle.maskwalk_text.specs.Text.{textOf}
-use Rattle.maskwalk_text.specs.Scan.{isOpen, feeds, report, written}
+use Rattle.maskwalk_text.specs.Text.{textOf, written}
+use Rattle.maskwalk_text.specs.Scan.{isOpen, fed, report}
+
+-- the parts of an input, one after another
+unfoldable pub feeds : List (List ℕ) → Scan → List ℕ → Scan × List ℕ
+feeds [] s held = (s, held)
+feeds (part ∷ parts) s held = let next = fed part s held in feeds parts (next .0) (next .1)
 
 -- what is written at the end, after all the parts of an input
 unfoldable pub afterParts : List (List ℕ) → List ℕ → List ℕ → ℕ × List ℕ

@@ -10,7 +10,8 @@ use words::block::load;
 ghost use mathlib.Core.Path.{_≡_};
 ghost use Prim.Native.Nat.{_≤_};
 ghost use lib.ListN.{length};
-ghost use Rattle.maskwalk_text.specs.Scan.{isOpen, fed, counted, report, written};
+ghost use Rattle.maskwalk_text.specs.Text.{written};
+ghost use Rattle.maskwalk_text.specs.Scan.{isOpen, fed, counted, report};
 
 // The bytes of the start.
 pub const START: usize = 128;

@@ -3,9 +3,8 @@ ghost use mathlib.Core.Path.{_≡_};
 ghost use mathlib.Core.List.{_++_};
 ghost use Prim.Native.Nat.{_≤_, _<_};
 ghost use lib.ListN.{length, drop};
-ghost use Rattle.maskwalk_text.specs.Text.{line, lines};
+ghost use Rattle.maskwalk_text.specs.Text.{line, lines, written};
 ghost use Rattle.maskwalk_text.specs.Text.{digit as Text·digit, digits as Text·digits};
-ghost use Rattle.maskwalk_text.specs.Scan.{written};
 
 // A digit below sixteen.
 fn digit(d: u64) -> u8

@@ -18,23 +18,23 @@ use Rattle.blockplan.proofs.Ciphered.{whole-le, length-left, length-ciphered, w
 use Rattle.opp.specs.Opp.{padded, sealAt, openAt, oppStream, oppCipher, oppPlain, oppSum, oppCheck, oppTag}
 use Rattle.opp.proofs.Steps.{beta-on}
 use Rattle.opp.proofs.Sums.{no-left, some-left, left-none}
-use Rattle.opp_blocks.specs.Pass.{crossed, crossedAt, bytesAt, plainAt}
+use Rattle.opp_blocks.specs.Pass.{transformed, transformedAt, bytesAt, plainAt}
 use Rattle.opp_blocks.proofs.Passes.{front-length}
 use Rattle.opp.specs.Pass.{passed, plain}
 
 module _ (rounds : ℕ) (start s : List ℕ) (l : Block start) where
   -- masks stepped on from gamma of the start are those of E(i, 0, 1) and D(i, 0, 1)
-  crossed-is : (opening : Bool) (i : ℕ) → crossedAt opening rounds (gamma start) s i
+  transformed-is : (opening : Bool) (i : ℕ) → transformedAt opening rounds (gamma start) s i
       ≡ cond opening (openAt rounds start i (blockAt s i)) (sealAt rounds start i (blockAt s i))
-  unfolding crossedAt crossed openAt sealAt encipher decipher maskAt times
-  crossed-is opening i = ap (λ (m : List ℕ). crossed opening rounds m (blockAt s i)) (sym (mask-alpha start l i 0 1))
+  unfolding transformedAt transformed openAt sealAt encipher decipher maskAt times
+  transformed-is opening i = ap (λ (m : List ℕ). transformed opening rounds m (blockAt s i)) (sym (mask-alpha start l i 0 1))
 
   -- what the pass writes: the whole blocks and the leftover
   pub passed-is : (opening : Bool)
       → passed opening rounds start s ≡ cat (bytesAt opening rounds (gamma start) s) (whole s) ++ xorBytes (left s) (bytesOf (oppStream rounds start (whole s)))
   unfolding passed oppPlain oppCipher ciphered bytesAt
-  passed-is true = ap (λ (c : List ℕ). c ++ xorBytes (left s) (bytesOf (oppStream rounds start (whole s)))) (cat-ext _ _ (whole s) (λ i p. ap bytesOf (sym (crossed-is true i))))
-  passed-is false = ap (λ (c : List ℕ). c ++ xorBytes (left s) (bytesOf (oppStream rounds start (whole s)))) (cat-ext _ _ (whole s) (λ i p. ap bytesOf (sym (crossed-is false i))))
+  passed-is true = ap (λ (c : List ℕ). c ++ xorBytes (left s) (bytesOf (oppStream rounds start (whole s)))) (cat-ext _ _ (whole s) (λ i p. ap bytesOf (sym (transformed-is true i))))
+  passed-is false = ap (λ (c : List ℕ). c ++ xorBytes (left s) (bytesOf (oppStream rounds start (whole s)))) (cat-ext _ _ (whole s) (λ i p. ap bytesOf (sym (transformed-is false i))))
 
   mask-blocks : times alpha (whole s) (gamma start) ≡ maskAt start (whole s) 0 1
   unfolding maskAt times
@@ -56,7 +56,7 @@ module _ (rounds : ℕ) (start s : List ℕ) (l : Block start) where
     unfolding oppPlain plainAt openAt
     opened-at i p =
         blockAt-ciphered (openAt rounds start) (oppStream rounds start) s i p (decipher-block rounds start (blockAt s i) l (block-blockAt s i h) i 0 1)
-        ∙ sym (crossed-is true i)
+        ∙ sym (transformed-is true i)
 
     -- Check over the message, from what the pass had in hand
     pub check-is : (opening : Bool) → oppCheck (plain opening rounds start s)

@@ -26,7 +26,7 @@ fn header_sum(start: [u64; 16], rounds: u32, header: &[u8]) -> [u64; 16]
     xor(sum, last)
 }
 
-// Sum, xor E of the check under a mask two beta steps on from the message's last.
+// Sum, xor E of the check under a mask two beta steps on from the one that the pass ends with.
 pub fn tag_block(start: [u64; 16], rounds: u32, header: &[u8], passed: Passed) -> [u64; 16]
     ensures { λ r. ⌜ r ≡ xorBlock (oppSum rounds start (now (header .entry))) (under rounds (betaOf (betaOf (passed .mask))) (passed .check)) ⌝ }
 {

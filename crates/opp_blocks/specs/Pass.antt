@@ -9,17 +9,17 @@ use Rattle.mem.specs.Mem.{under, unUnder}
 use Rattle.blockplan.specs.Plan.{blockAt}
 
 -- E of a block, given its mask; D where a parcel is opened
-unfoldable pub crossed : Bool → ℕ → List ℕ → List ℕ → List ℕ
-crossed opening rounds mask block = cond opening (unUnder rounds mask block) (under rounds mask block)
+unfoldable pub transformed : Bool → ℕ → List ℕ → List ℕ → List ℕ
+transformed opening rounds mask block = cond opening (unUnder rounds mask block) (under rounds mask block)
 
 -- what whole block i becomes, under a mask that is i alpha steps on from the first
-unfoldable pub crossedAt : Bool → ℕ → List ℕ → List ℕ → ℕ → List ℕ
-crossedAt opening rounds first s i = crossed opening rounds (times alpha i first) (blockAt s i)
+unfoldable pub transformedAt : Bool → ℕ → List ℕ → List ℕ → ℕ → List ℕ
+transformedAt opening rounds first s i = transformed opening rounds (times alpha i first) (blockAt s i)
 
 -- its bytes
 unfoldable pub bytesAt : Bool → ℕ → List ℕ → List ℕ → ℕ → List ℕ
-bytesAt opening rounds first s i = bytesOf (crossedAt opening rounds first s i)
+bytesAt opening rounds first s i = bytesOf (transformedAt opening rounds first s i)
 
 -- block i of the message: as it comes out where a parcel is opened, else as it goes in
 unfoldable pub plainAt : Bool → ℕ → List ℕ → List ℕ → ℕ → List ℕ
-plainAt opening rounds first s i = cond opening (crossedAt opening rounds first s i) (blockAt s i)
+plainAt opening rounds first s i = cond opening (transformedAt opening rounds first s i) (blockAt s i)

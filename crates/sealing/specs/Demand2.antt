@@ -1,4 +1,4 @@
--- Demand 2: opening hands back the message of every sealed parcel and refuses every other with 9 (document 01). Assumes nothing.
+-- Demand 2: opening hands back the message of every sealed parcel and refuses every other with 9 (document 01, "Entry points" and "Block plan"). Assumes nothing.
 use mathlib.Core.Path.{_≡_}
 use mathlib.Core.Logic.{_⊎_}
 use mathlib.Core.List.{List, _++_}

@@ -1,6 +1,6 @@
 // Seal and open: the checks in document 01's order, then a mode over the start block.
-pub mod checks;
-pub mod modes;
+mod checks;
+mod modes;
 
 use answers::Answer;
 use answers::number;

@@ -14,7 +14,7 @@ use Rattle.words.proofs.Blocks.{length-bytesOf, bytes-bytesOf, block-blockOf, b
 use Rattle.answers.specs.Answers.{refuse}
 use Rattle.answers.specs.declared.Answer.{Answer}
 use Rattle.answers.specs.declared.Answer.the-variants.{Done, OutputLength}
-use Rattle.masks.specs.Steps.{Step}
+use Rattle.masks.specs.BackSteps.{Step}
 use Rattle.masks.proofs.Laws.{alpha-step, beta-step, gamma-step}
 use Rattle.walking.specs.Walking.{step, walked, taken, jumped, isStep, firstBad, inRange, walkCall, jumpCall}
 use Rattle.walking.specs.Demand3.{Start, Steps, count, net, mask, Demand3}
@@ -80,8 +80,8 @@ block start a = block-blockOf start (a .bytes)
 start-of : (b : List ℕ) → Start (bytesOf b)
 start-of b = record { long = length-bytesOf b; bytes = bytes-bytesOf b }
 
-home-of : (start : List ℕ) → Start start → bytesOf (blockOf start) ≡ start
-home-of start a = bytes-are start (a .bytes) (a .long)
+start-bytes : (start : List ℕ) → Start start → bytesOf (blockOf start) ≡ start
+start-bytes start a = bytes-are start (a .bytes) (a .long)
 
 -- a block comes back from its bytes
 again-of : (b : List ℕ) → Block b → blockOf (bytesOf b) ≡ b
@@ -94,12 +94,12 @@ walk-is-jump start steps out a l =
     ∙ ap (λ (b : List ℕ). refuse (ltb (length out) 128) OutputLength out (Done 128, bytesOf b ++ drop 128 out)) (leads steps (blockOf start) (block start a))
     ∙ sym (jump-answers start steps out a l)
 
-home : (start l : List ℕ) → Start start → Steps l → net 1 l ≡ pos 0 → net 2 l ≡ pos 0 → net 3 l ≡ pos 0 → mask start l ≡ start
+zero-nets : (start l : List ℕ) → Start start → Steps l → net 1 l ≡ pos 0 → net 2 l ≡ pos 0 → net 3 l ≡ pos 0 → mask start l ≡ start
 unfolding jumped taken times
-home start l a h p q r =
+zero-nets start l a h p q r =
     mask-is start l a h
     ∙ ap bytesOf (leads l (blockOf start) (block start a) ∙ rw (p, q, r))
-    ∙ home-of start a
+    ∙ start-bytes start a
 
 linear : (s t l : List ℕ) → Start s → Start t → Steps l → mask (xorBytes s t) l ≡ xorBytes (mask s l) (mask t l)
 linear s t l a b h =
@@ -150,12 +150,12 @@ module _ (kind : ℕ) (s : List ℕ) (p : 1 ≤ kind) (q : kind ≤ 3) (a : Star
       ∙ mask-step kind (bytesOf before) p (omega arith) (start-of before)
       ∙ ap (λ (b : List ℕ). bytesOf (step kind b)) (again-of before before-block)
       ∙ ap bytesOf (kind-step kind p q .redo (blockOf s) (block s a))
-      ∙ home-of s a
+      ∙ start-bytes s a
 
   only : (t : List ℕ) → Start t → mask t (kind ∷ []) ≡ s → t ≡ mask s ((kind + 3) ∷ [])
   unfolding before
   only t b e =
-      sym (home-of t b)
+      sym (start-bytes t b)
       ∙ ap bytesOf (sym (kind-step kind p q .undo (blockOf t) (block t b)) ∙ ap (step (kind + 3))
       (sym (again-of (step kind (blockOf t)) (kind-step kind p q .on (blockOf t) (block t b)))
       ∙ ap blockOf (sym (mask-step kind t p (omega arith) b) ∙ e)))
@@ -171,7 +171,7 @@ demand3 = record {
   only-seven = only-seven;
   jump-only-seven = λ start steps out a l. sym (walk-is-jump start steps out a l) ∙ only-seven start steps out a l;
   same-nets = λ start l m out a h g p q r. walk-is-jump start l out a h ∙ rw (p, q, r) (sym (walk-is-jump start m out a g));
-  home = home;
+  zero-nets = zero-nets;
   linear = linear;
   again = λ start l a h. subst Start (sym (mask-is start l a h)) (start-of (walked l (blockOf start)));
   back = λ kind s p q a. back kind s p q a;

@@ -7,8 +7,8 @@ use lib.IntN.{ℤ}
 use borrow.Author.Tests.{ne-eqb}
 use Rattle.words.specs.Sequence.{times}
 use Rattle.words.specs.Block.{Block, xorBlock}
-use Rattle.masks.specs.Steps.{Step, alpha, beta, gamma}
-use Rattle.masks.specs.BackSteps.{unAlpha, unBeta, unGamma}
+use Rattle.masks.specs.Steps.{alpha, beta, gamma}
+use Rattle.masks.specs.BackSteps.{unAlpha, unBeta, unGamma, Step}
 use Rattle.masks.proofs.Laws.{alpha-step, beta-step, gamma-step, alpha-beta, alpha-gamma, beta-gamma, back-step, commute-back}
 use Rattle.walking.specs.Walking.{step, walked, taken, jumped}
 use Rattle.walking.specs.Demand3.{count, net}

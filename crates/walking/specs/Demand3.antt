@@ -52,7 +52,7 @@ pub record Demand3 : Type 0 where
   pub same-nets : (start l m out : List ℕ) → Start start → Steps l → Steps m
       → net 1 l ≡ net 1 m → net 2 l ≡ net 2 m → net 3 l ≡ net 3 m → walkCall start l out ≡ walkCall start m out
   -- and at the start itself where all three are zero
-  pub home : (start l : List ℕ) → Start start → Steps l → net 1 l ≡ pos 0 → net 2 l ≡ pos 0 → net 3 l ≡ pos 0 → mask start l ≡ start
+  pub zero-nets : (start l : List ℕ) → Start start → Steps l → net 1 l ≡ pos 0 → net 2 l ≡ pos 0 → net 3 l ≡ pos 0 → mask start l ≡ start
   -- the mask from the exclusive or of two starts is the exclusive or of their two masks under the same list
   pub linear : (s t l : List ℕ) → Start s → Start t → Steps l → mask (xorBytes s t) l ≡ xorBytes (mask s l) (mask t l)
   -- each mask is again 128 bytes

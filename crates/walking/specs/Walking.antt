@@ -13,7 +13,7 @@ use Rattle.answers.specs.Answers.{refuse}
 use Rattle.answers.specs.declared.Answer.{Answer}
 use Rattle.answers.specs.declared.Answer.the-variants.{Done, OutputLength, StartLength, NetCount, StepByte, ListLength}
 
--- one step: 1, 2, 3 for alpha, beta, gamma; 4, 5, 6 for their back steps
+-- one step: 1, 2, 3 for alpha, beta, gamma; 4, 5, 6 for their back steps; any other byte, which walk refuses, leaves the block
 unfoldable pub step : ℕ → List ℕ → List ℕ
 step zero b = b
 step (suc zero) b = alpha b

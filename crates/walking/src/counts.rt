@@ -37,7 +37,7 @@ pub fn all_in_range(a: i32, b: i32, c: i32) -> bool
 }
 
 // That many steps of a kind from 1 to 3, its back steps where the count is negative.
-pub fn travel(start: [u64; 16], kind: u8, z: i32) -> [u64; 16]
+pub fn take_net(start: [u64; 16], kind: u8, z: i32) -> [u64; 16]
     requires { ⌜ (1 ≤ kind) × (kind ≤ 3) ⌝ }
     ensures { λ r. ⌜ r ≡ taken (step kind) (step (kind + 3)) z start ⌝ }
 {

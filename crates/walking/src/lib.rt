@@ -1,10 +1,10 @@
 // Walk and jump: a mask moved on and back by alpha, beta and gamma steps, over lent bytes.
-pub mod counts;
+mod counts;
 pub mod steps;
 
 use answers::Answer;
 use counts::all_in_range;
-use counts::travel;
+use counts::take_net;
 use steps::first_bad;
 use steps::take_all;
 use words::block::load;
@@ -50,9 +50,9 @@ pub fn jump(start: &[u8], alpha: i32, beta: i32, gamma: i32, out: &mut [u8]) -> 
     if out.len() < 128 {
         return Answer::OutputLength;
     }
-    let one = travel(load(start), 1, alpha);
-    let two = travel(one, 2, beta);
-    let three = travel(two, 3, gamma);
+    let one = take_net(load(start), 1, alpha);
+    let two = take_net(one, 2, beta);
+    let three = take_net(two, 3, gamma);
     store(three, out);
     Answer::Done(128)
 }

@@ -3,7 +3,7 @@ ghost use mathlib.Core.Path.{_≡_};
 ghost use Rattle.words.specs.Sequence.{times};
 ghost use Rattle.walking.specs.Walking.{step, walked, firstBad};
 
-// One step: 1, 2, 3 are alpha, beta, gamma; 4, 5, 6 their back steps; any other byte stays.
+// One step: 1, 2, 3 are alpha, beta, gamma; 4, 5, 6 their back steps; any other byte leaves the block.
 pub fn take_one(b: [u64; 16], kind: u8) -> [u64; 16]
     ensures { λ r. ⌜ r ≡ step kind b ⌝ }
 {

@@ -49,7 +49,7 @@ xorAt a b i = bitXor (getD a i 0) (getD b i 0)
 unfoldable pub xorBlock : List ℕ → List ℕ → List ℕ
 xorBlock a b = tab (xorAt a b) 16
 
--- the bytes s, each exclusive or its fellow of k
+-- the bytes s, exclusive or k byte by byte; past its end k counts as zero
 unfoldable pub xorBytes : List ℕ → List ℕ → List ℕ
 xorBytes s k = tab (xorAt s k) (length s)
 

@@ -1,4 +1,4 @@
--- Words of 64 bits (document 01, "Words, bytes, blocks" and "The permutation"). Assumes nothing.
+-- Words of 64 bits (document 01, "Words, bytes, blocks", "The permutation" and, for the shift, "Masks"). Assumes nothing.
 use Prim.Native.Nat.{ℕ, _+_, _-_, _*_, _/_, _%_, _^_}
 
 -- the sum, which wraps at 64 bits

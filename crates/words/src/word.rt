@@ -30,6 +30,7 @@ pub fn shift_left(x: u64, n: u32) -> u64
     x << n
 }
 
+// A byte as a word.
 fn wide(x: u8) -> u64
     ensures { λ r. ⌜ (r ≡ x) × (r < 256) ⌝ }
 {

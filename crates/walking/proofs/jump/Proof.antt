@@ -30,14 +30,14 @@ returns-3 c =
 load-requires : tie.Need-load-requires
 load-requires c κs = search needs
 
-travel-requires : tie.Need-travel-requires
-travel-requires c κs = search needs
+take-net-requires : tie.Need-take-net-requires
+take-net-requires c κs = search needs
 
-travel-requires-2 : tie.Need-travel-requires-2
-travel-requires-2 c κs = search needs
+take-net-requires-2 : tie.Need-take-net-requires-2
+take-net-requires-2 c κs = search needs
 
-travel-requires-3 : tie.Need-travel-requires-3
-travel-requires-3 c κs = search needs
+take-net-requires-3 : tie.Need-take-net-requires-3
+take-net-requires-3 c κs = search needs
 
 store-requires : tie.Need-store-requires
 store-requires c κs = search needs
@@ -50,7 +50,7 @@ unfolding jumpCall refuse jumped step
 returns-4 c =
     let tests = c .before .before .before .before .before .before .before .before in
     let start = tests .before .before .before .before .before .before in
-    simp (eq-eqb _ _ (tests .before .before .before .if1 .left), ← (ranges (start .args .alpha) (start .args .beta) (start .args .gamma) (start .fits .alpha) (start .fits .beta) (start .fits .gamma) (tests .before .before .all-in-range .ensures)), tests .before .if2 .left, le-ltb _ _ (tests .if3 .left), c .before .before .store .ensures, c .before .before .before .before .travel3 .ensures, c .before .before .before .before .before .travel2 .ensures, c .before .before .before .before .before .before .travel .ensures, c .before .before .before .before .before .before .before .load .ensures, toZ-ofZ (start .fits .alpha), toZ-ofZ (start .fits .beta), toZ-ofZ (start .fits .gamma))
+    simp (eq-eqb _ _ (tests .before .before .before .if1 .left), ← (ranges (start .args .alpha) (start .args .beta) (start .args .gamma) (start .fits .alpha) (start .fits .beta) (start .fits .gamma) (tests .before .before .all-in-range .ensures)), tests .before .if2 .left, le-ltb _ _ (tests .if3 .left), c .before .before .store .ensures, c .before .before .before .before .take-net3 .ensures, c .before .before .before .before .before .take-net2 .ensures, c .before .before .before .before .before .before .take-net .ensures, c .before .before .before .before .before .before .before .load .ensures, toZ-ofZ (start .fits .alpha), toZ-ofZ (start .fits .beta), toZ-ofZ (start .fits .gamma))
 
 pub jump-spec : {M : Type 1} → statement M
 jump-spec =
@@ -61,9 +61,9 @@ jump-spec =
     returns-2
     returns-3
     load-requires
-    travel-requires
-    travel-requires-2
-    travel-requires-3
+    take-net-requires
+    take-net-requires-2
+    take-net-requires-3
     store-requires
     same-length
     returns-4)

@@ -6,7 +6,7 @@ use native.Mathlib.Omega.{arith}
 use lib.ListN.{length, take, drop, length-set}
 use lib.Seq.{take-length}
 use denote.Ref.{now}
-use Rattle.maskwalk_text.specs.Scan.{written}
+use Rattle.maskwalk_text.specs.Text.{written}
 use Rattle.maskwalk_text.proofs.Writing.{byte-in}
 use borrow.Author.Needs.{needs}
 use Rattle.maskwalk_text.proofs.lines.put.Statement.{statement}

@@ -11,7 +11,7 @@ use Rattle.words.proofs.Lists.{appended, tailPart, timesed}
 use Rattle.masks.specs.Steps.{alpha}
 use Rattle.blockplan.specs.Plan.{whole, blockAt, xorOver}
 use Rattle.blockplan.proofs.Plans.{summed}
-use Rattle.opp_blocks.specs.Pass.{crossed, crossedAt, bytesAt, plainAt}
+use Rattle.opp_blocks.specs.Pass.{transformed, transformedAt, bytesAt, plainAt}
 use Rattle.opp_blocks.proofs.Passes.{length-bytesAt}
 use borrow.Author.Needs.{needs}
 use Rattle.opp_blocks.proofs.opening.open_blocks.Statement.{statement}
@@ -66,7 +66,7 @@ loop-less : tie.Need-loop-less Inv-loop μ-loop
 loop-less c = search needs
 
 loop-again : tie.Need-loop-again Inv-loop μ-loop
-unfolding bytesAt plainAt crossedAt crossed blockAt
+unfolding bytesAt plainAt transformedAt transformed blockAt
 loop-again c =
     let at = c .before .before .before .before .before .before .before .loop in
     let a = c .before .before .before .before .before .before .before .before .before .before .before .args in

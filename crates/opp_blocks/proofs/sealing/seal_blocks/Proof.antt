@@ -12,7 +12,7 @@ use Rattle.words.proofs.Lists.{appended, tailPart, timesed}
 use Rattle.masks.specs.Steps.{alpha}
 use Rattle.blockplan.specs.Plan.{whole, blockAt, xorOver}
 use Rattle.blockplan.proofs.Plans.{summed}
-use Rattle.opp_blocks.specs.Pass.{crossed, crossedAt, bytesAt, plainAt}
+use Rattle.opp_blocks.specs.Pass.{transformed, transformedAt, bytesAt, plainAt}
 use Rattle.opp_blocks.proofs.Passes.{length-bytesAt}
 use Rattle.opp_blocks.proofs.Pairs.{appended-two, summed-two, timesed-two}
 use borrow.Author.Needs.{needs}
@@ -74,7 +74,7 @@ loop-less : tie.Need-loop-less Inv-loop μ-loop
 loop-less c = search needs
 
 loop-again : tie.Need-loop-again Inv-loop μ-loop
-unfolding bytesAt plainAt crossedAt crossed blockAt
+unfolding bytesAt plainAt transformedAt transformed blockAt
 loop-again c =
     let at = c .before .before .before .before .before .before .before .before .loop in
     let a = c .before .before .before .before .before .before .before .before .before .before .before .before .args in
@@ -141,7 +141,7 @@ same-length-2 : tie.Need-same-length-2 Inv-loop μ-loop
 same-length-2 c = search needs
 
 returns-2 : tie.Need-returns-2 Inv-loop μ-loop
-unfolding whole bytesAt plainAt crossedAt crossed blockAt
+unfolding whole bytesAt plainAt transformedAt transformed blockAt
 returns-2 c =
     let at = c .before .before .before .before .before .before .before .before .loop in
     let a = c .before .before .before .before .before .before .before .before .before .before .before .before .args in

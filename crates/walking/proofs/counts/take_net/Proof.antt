@@ -6,8 +6,8 @@ use mir.Facts.{toZ-ofZ}
 use Rattle.walking.specs.Walking.{step}
 use Rattle.walking.proofs.Sizes.{taken-back, taken-on}
 use borrow.Author.Needs.{needs}
-use Rattle.walking.proofs.counts.travel.Statement.{statement}
-use Rattle.walking.proofs.counts.travel.Tie as tie
+use Rattle.walking.proofs.counts.take_net.Statement.{statement}
+use Rattle.walking.proofs.counts.take_net.Tie as tie
 
 add-take-many : tie.Need-add-take-many
 add-take-many c = search needs
@@ -38,8 +38,8 @@ returns-2 c =
     c .take-many2 .ensures ∙ rw (c .before .magnitude2 .ensures, here)
     (taken-on (step (start .args .kind)) _ (start .args .z) (start .args .start) (rw here at (c .before .before .if1 .left)))
 
-pub travel-spec : {M : Type 1} → statement M
-travel-spec =
+pub take-net-spec : {M : Type 1} → statement M
+take-net-spec =
     tie.close
     (tie.spec
     add-take-many
