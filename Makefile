@@ -30,7 +30,7 @@ bench: dist
 	@tools/need.sh pkg:libsodium-dev libsodium-dev
 	@cd rust && cargo run --offline --release --quiet --package bench -- --docs ../docs $(if $(wildcard target/gate.times),--gate ../target/gate.times)
 
-# Every outside check seen to fail on a library with a fault in it.
+# The comparison and the checks of secrets, stack, symbols, header and maskwalk, seen to fail on faulty ones.
 planted: tools
 	@tools/planted.sh
 

@@ -10,9 +10,9 @@ use Rattle.words.specs.Block.{Block, xorBlock}
 use Rattle.masks.specs.Steps.{alpha, beta, gamma}
 use Rattle.masks.specs.BackSteps.{unAlpha, unBeta, unGamma, Step}
 use Rattle.masks.proofs.Laws.{alpha-step, beta-step, gamma-step, alpha-beta, alpha-gamma, beta-gamma, back-step, commute-back}
 use Rattle.walking.specs.Walking.{step, walked, taken, jumped}
-use Rattle.walking.specs.Demand3.{count, net}
-use Rattle.walking.proofs.Order.{Keeps, Commute, turn, taken-more, taken-less, taken-keeps, taken-commute}
+use Rattle.demands.specs.Demand3.{count, net}
+use Rattle.demands.proofs.Order.{Keeps, Commute, turn, taken-more, taken-less, taken-keeps, taken-commute}
 
 -- ---- a move ahead of a jump counts for its own kind
 

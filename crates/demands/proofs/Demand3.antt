@@ -16,9 +16,9 @@ use Rattle.answers.specs.declared.Answer.{Answer}
 use Rattle.answers.specs.declared.Answer.the-variants.{Done, OutputLength}
 use Rattle.masks.specs.BackSteps.{Step}
 use Rattle.masks.proofs.Laws.{alpha-step, beta-step, gamma-step}
 use Rattle.walking.specs.Walking.{step, walked, taken, jumped, isStep, firstBad, inRange, walkCall, jumpCall}
-use Rattle.walking.specs.Demand3.{Start, Steps, count, net, mask, Demand3}
-use Rattle.walking.proofs.Walked.{leads, walked-linear}
+use Rattle.demands.specs.Demand3.{Start, Steps, count, net, mask, Demand3}
+use Rattle.demands.proofs.Walked.{leads, walked-linear}
 
 -- ---- a list of steps has no bad place
 

@@ -1,0 +1,4 @@
+pub mod Order
+pub mod Walked
+pub mod Demand3
+pub mod Demand2
