@@ -13,6 +13,14 @@ const CONSTRUCTION: [Implementation; 3] = [
 ];
 const SODIUM: [Implementation; 2] = [Implementation::XChaCha, Implementation::AesGcm];
 
+/// What stands below the ratios.
+const BOUNDS: &str =
+    "The bounds are what this project asks of itself: no ratio above its bound.\n\n";
+
+/// What stands below the growth.
+const FIXED_COST: &str = "1 is linear growth. A call has a fixed cost, the start's and the tag's \
+    blocks among it, so that a whole call grows by a little less than its message does.\n\n";
+
 /// Where and when it was measured.
 pub struct Setup {
     pub date: String,
@@ -38,11 +46,13 @@ pub fn page(setup: &Setup, samples: &Samples) -> String {
     section(&mut page, "Cycles per byte", &figures(samples, per_byte));
     section(&mut page, "Cycles per call", &figures(samples, per_call));
     section(&mut page, "Ratios", &ratios(samples));
+    page.push_str(BOUNDS);
     section(
         &mut page,
         "Growth from 4 KiB to 64 KiB, by linear growth",
         &growth(samples),
     );
+    page.push_str(FIXED_COST);
     section(
         &mut page,
         "The paper's table 2, cycles per byte for long messages",
