@@ -25,7 +25,8 @@ use Rattle.mro.specs.Mro.{mroTag, mroCipher}
 use Rattle.answers.specs.Answers.{refuse}
 use Rattle.answers.specs.declared.Answer.{Answer}
 use Rattle.answers.specs.declared.Answer.the-variants.{Done}
-use Rattle.sealing.specs.Sealing.{tagOf, cipherOf, plainOf, parcelOf, messageOf, isMode, isRounds, settings, isRefusal, sealCall, verdict, openCall}
+use Rattle.settings.specs.Settings.{isMode, isRounds, settings, isRefusal}
+use Rattle.sealing.specs.Sealing.{tagOf, cipherOf, plainOf, parcelOf, messageOf, sealCall, verdict, openCall}
 use Rattle.demands.specs.Demand2.{Settings, Message, Parcel, Seals, Opens, Refuses, Demand2}
 
 -- ---- the checks pass

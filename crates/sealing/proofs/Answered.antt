@@ -11,7 +11,8 @@ use Rattle.answers.specs.Answers.{valueOf}
 use Rattle.answers.specs.declared.Answer.{Answer}
 use Rattle.answers.proofs.Values.{refuse-lt}
 use Rattle.answers.specs.declared.Answer.the-variants.{Done, Mode, Rounds, KeyLength, NonceLength, HeaderLength, InputLength, OutputLength, TagMissing, TagDiffers}
-use Rattle.sealing.specs.Sealing.{parcelOf, isMode, isRounds, settings, isRefusal, sealCall, verdict, openCall}
+use Rattle.sealing.specs.Sealing.{parcelOf, sealCall, verdict, openCall}
+use Rattle.settings.specs.Settings.{isMode, isRounds, settings, isRefusal}
 
 pick-lt : (n : ℕ) (t : Bool) (a b : Answer) → valueOf a < n → valueOf b < n → valueOf (cond t a b) < n
 pick-lt n true a b h g = h

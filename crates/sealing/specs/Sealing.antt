@@ -1,16 +1,17 @@
 -- Seal and open (document 01, "Entry points and where each call is checked"). Assumes nothing.
-use mathlib.Core.Bool.{Bool, cond, not, _||_}
+use mathlib.Core.Bool.{Bool, cond}
 use mathlib.Core.List.{List, _++_}
 use Prim.Native.Nat.{ℕ, _+_, _-_}
 use lib.Dec.{eqb, ltb}
 use lib.ListN.{length, drop}
 use Rattle.mem.specs.Mem.{startOf}
 use Rattle.blockplan.specs.Plan.{opened, cipherPart, tagPart}
+use Rattle.settings.specs.Settings.{settings, isRefusal}
 use Rattle.opp.specs.Opp.{oppTag, oppCipher, oppPlain}
 use Rattle.mro.specs.Mro.{mroTag, mroCipher}
-use Rattle.answers.specs.Answers.{numberOf, refuse}
+use Rattle.answers.specs.Answers.{refuse}
 use Rattle.answers.specs.declared.Answer.{Answer}
-use Rattle.answers.specs.declared.Answer.the-variants.{Done, Mode, Rounds, KeyLength, NonceLength, HeaderLength, InputLength, OutputLength, TagMissing, TagDiffers}
+use Rattle.answers.specs.declared.Answer.the-variants.{Done, InputLength, OutputLength, TagMissing, TagDiffers}
 
 -- ---- a mode's tag, ciphertext and message, over a round count and a start block; mode 1 is OPP, 2 is MRO
 
@@ -34,29 +35,6 @@ parcelOf mode rounds start header message =
 -- the message that a parcel holds if its tag is right
 unfoldable pub messageOf : ℕ → ℕ → List ℕ → List ℕ → List ℕ
 messageOf mode rounds start parcel = plainOf mode rounds start (tagPart parcel) (cipherPart parcel)
-
--- ---- the checks that seal and open share, first to fifth
-
--- mode 1 or 2
-unfoldable pub isMode : ℕ → Bool
-isMode mode = eqb mode 1 || eqb mode 2
-
--- rounds 4 or 6
-unfoldable pub isRounds : ℕ → Bool
-isRounds rounds = eqb rounds 4 || eqb rounds 6
-
--- the first ground of these that holds, or none
-unfoldable pub settings : ℕ → ℕ → List ℕ → List ℕ → List ℕ → Answer
-settings mode rounds key nonce header =
-    cond (not (isMode mode)) Mode
-    (cond (not (isRounds rounds)) Rounds
-    (cond (not (eqb (length key) 32)) KeyLength
-    (cond (not (eqb (length nonce) 16)) NonceLength
-    (cond (ltb 4096 (length header)) HeaderLength (Done 0)))))
-
--- whether an answer is a refusal
-unfoldable pub isRefusal : Answer → Bool
-isRefusal a = not (eqb (numberOf a) 0)
 
 -- ---- the calls
 

@@ -1,13 +1,12 @@
 // Seal and open: the checks in document 01's order, then a mode over the start block.
-mod checks;
 mod modes;
 
 use answers::Answer;
 use answers::number;
-use checks::settings;
 use mem::start::start;
 use modes::open_under;
 use modes::seal_under;
+use settings::settings;
 ghost use mathlib.Core.Path.{_≡_};
 ghost use Rattle.sealing.specs.Sealing.{sealCall, openCall};
 

@@ -2,7 +2,8 @@
 use borrow.Author.Tests.{eq-eqb, ne-eqb, lt-ltb, le-ltb}
 use mathlib.Core.Path.{_≡_, sym, _∙_}
 use Rattle.answers.specs.Answers.{numberOf, refuse}
-use Rattle.sealing.specs.Sealing.{sealCall, isRefusal}
+use Rattle.settings.specs.Settings.{isRefusal}
+use Rattle.sealing.specs.Sealing.{sealCall}
 use borrow.Author.Needs.{needs}
 use Rattle.sealing.proofs.seal.Statement.{statement}
 use Rattle.sealing.proofs.seal.Tie as tie

@@ -1,8 +1,8 @@
 -- The two tests in turn. Assumes nothing.
 use borrow.Author.Tests.{eq-eqb, ne-eqb}
-use Rattle.sealing.specs.Sealing.{isMode}
-use Rattle.sealing.proofs.checks.is_mode.Statement.{statement}
-use Rattle.sealing.proofs.checks.is_mode.Tie as tie
+use Rattle.settings.specs.Settings.{isMode}
+use Rattle.settings.proofs.is_mode.Statement.{statement}
+use Rattle.settings.proofs.is_mode.Tie as tie
 
 returns : tie.Need-returns
 unfolding isMode

@@ -3,7 +3,7 @@ use answers::Answer;
 ghost use mathlib.Core.Path.{_≡_};
 ghost use lib.ListN.{length};
 ghost use Rattle.answers.specs.Answers.{numberOf};
-ghost use Rattle.sealing.specs.Sealing.{isMode, isRounds, settings};
+ghost use Rattle.settings.specs.Settings.{isMode, isRounds, settings};
 
 // Mode 1 or 2.
 fn is_mode(mode: u32) -> bool

@@ -1,10 +1,10 @@
 -- The first ground that holds decides. Assumes nothing.
 use native.Mathlib.Omega.{arith}
 use borrow.Author.Tests.{eq-eqb, ne-eqb, lt-ltb, le-ltb}
-use Rattle.sealing.specs.Sealing.{settings}
+use Rattle.settings.specs.Settings.{settings}
 use borrow.Author.Needs.{needs}
-use Rattle.sealing.proofs.checks.settings.Statement.{statement}
-use Rattle.sealing.proofs.checks.settings.Tie as tie
+use Rattle.settings.proofs.settings.Statement.{statement}
+use Rattle.settings.proofs.settings.Tie as tie
 
 is-mode-requires : tie.Need-is-mode-requires
 is-mode-requires c κs = search needs

@@ -1,8 +1,8 @@
 -- The two tests in turn. Assumes nothing.
 use borrow.Author.Tests.{eq-eqb, ne-eqb}
-use Rattle.sealing.specs.Sealing.{isRounds}
-use Rattle.sealing.proofs.checks.is_rounds.Statement.{statement}
-use Rattle.sealing.proofs.checks.is_rounds.Tie as tie
+use Rattle.settings.specs.Settings.{isRounds}
+use Rattle.settings.proofs.is_rounds.Statement.{statement}
+use Rattle.settings.proofs.is_rounds.Tie as tie
 
 returns : tie.Need-returns
 unfolding isRounds
