@@ -14,8 +14,8 @@ use Rattle.words.proofs.Blocks.{length-bytesOf, bytes-bytesOf, block-blockOf, b
 use Rattle.answers.specs.Answers.{refuse}
 use Rattle.answers.specs.declared.Answer.{Answer}
 use Rattle.answers.specs.declared.Answer.the-variants.{Done, OutputLength}
-use Rattle.masks.specs.BackSteps.{Step}
-use Rattle.masks.proofs.Laws.{alpha-step, beta-step, gamma-step}
+use Rattle.back_steps.specs.BackSteps.{Step}
+use Rattle.back_steps.proofs.Laws.{alpha-step, beta-step, gamma-step}
 use Rattle.walking.specs.Walking.{step, walked, taken, jumped, isStep, firstBad, inRange, walkCall, jumpCall}
 use Rattle.demands.specs.Demand3.{Start, Steps, count, net, mask, Demand3}
 use Rattle.demands.proofs.Walked.{leads, walked-linear}

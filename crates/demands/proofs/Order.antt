@@ -6,8 +6,8 @@ use lib.IntN.{ℤ, pos, negsuc, sucℤ, predℤ, negℤ, _+ℤ_, _-ℤ_, sucℤ-
 use Rattle.words.specs.Sequence.{times}
 use Rattle.words.specs.Block.{Block}
 use Rattle.words.proofs.Times.{times-first, times-keeps, times-commute}
-use Rattle.masks.specs.BackSteps.{Step}
-use Rattle.masks.proofs.Laws.{commute-back}
+use Rattle.back_steps.specs.BackSteps.{Step}
+use Rattle.back_steps.proofs.Laws.{commute-back}
 use Rattle.walking.specs.Walking.{taken}
 
 -- f takes blocks to blocks

@@ -10,7 +10,7 @@ use Rattle.words.specs.Word.{addW, rotR, rotL, shl}
 use Rattle.words.specs.Block.{le, lowBytes, wordAt, blockOf, wordBytes, bytesOf, zeroBlock, xorAt, xorBlock, xorBytes}
 use Rattle.permutation.specs.Permutation.{gOf, half, pick, put, stepAt, gAt, over, groups, round, perm}
 use Rattle.masks.specs.Steps.{alphaW, alpha, beta, gamma}
-use Rattle.masks.specs.BackSteps.{unAlpha}
+use Rattle.back_steps.specs.BackSteps.{unAlpha}
 use Rattle.mem.specs.Mem.{startBlock, startOf, maskAt, under, encipher}
 use Rattle.blockplan.specs.Plan.{whole, left, hasLeft, blockAt, xorOver, xorIf, ciphered, tagBytes, same}
 use Rattle.opp.specs.Opp.{padded, headerAt, oppSum, oppCheck, oppTag, sealAt, oppStream, oppCipher}

@@ -8,7 +8,7 @@ use Rattle.words.specs.Sequence.{tab, zeros}
 use Rattle.words.specs.Block.{bytesOf, zeroBlock}
 use Rattle.permutation.specs.Permutation.{gOf, round}
 use Rattle.masks.specs.Steps.{alpha, beta, gamma}
-use Rattle.masks.specs.BackSteps.{unAlpha}
+use Rattle.back_steps.specs.BackSteps.{unAlpha}
 use Rattle.mem.specs.Mem.{startOf}
 use Rattle.blockplan.specs.Plan.{same}
 use Rattle.opp.specs.Opp.{padded}

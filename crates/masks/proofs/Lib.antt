@@ -1,7 +1,1 @@
-pub mod Linear
-pub mod Chosen
-pub mod Solving
-pub mod Runs
-pub mod Undoing
-pub mod Laws
 pub mod Arrays

@@ -1,4 +1,2 @@
-// The three steps of a mask, and their back steps.
-pub mod back;
+// The three steps of a mask.
 pub mod steps;
-mod tables;

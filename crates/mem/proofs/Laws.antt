@@ -13,7 +13,7 @@ use Rattle.words.proofs.Times.{times-keeps, times-commute}
 use Rattle.permutation.specs.Permutation.{perm, unPerm}
 use Rattle.permutation.proofs.Undone.{perm-block, unPerm-block, unPerm-perm, perm-unPerm}
 use Rattle.masks.specs.Steps.{alpha, beta, gamma}
-use Rattle.masks.proofs.Laws.{alpha-step, beta-step, gamma-step, alpha-beta, alpha-gamma}
+use Rattle.back_steps.proofs.Laws.{alpha-step, beta-step, gamma-step, alpha-beta, alpha-gamma}
 use Rattle.mem.specs.Mem.{startBlock, startOf, maskAt, under, unUnder, encipher, decipher}
 
 -- ---- masks

@@ -6,7 +6,7 @@ use Rattle.words.specs.Sequence.{times}
 use Rattle.words.specs.Block.{Block}
 use Rattle.words.proofs.Times.{times-keeps, times-commute}
 use Rattle.masks.specs.Steps.{alpha, beta, gamma}
-use Rattle.masks.proofs.Laws.{alpha-step, beta-step, gamma-step, beta-gamma}
+use Rattle.back_steps.proofs.Laws.{alpha-step, beta-step, gamma-step, beta-gamma}
 use Rattle.mem.specs.Mem.{maskAt}
 
 module _ (start : List ℕ) (b : Block start) (i j k : ℕ) where

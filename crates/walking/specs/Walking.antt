@@ -8,7 +8,7 @@ use lib.ListN.{length, drop}
 use Rattle.words.specs.Sequence.{times}
 use Rattle.words.specs.Block.{blockOf, bytesOf}
 use Rattle.masks.specs.Steps.{alpha, beta, gamma}
-use Rattle.masks.specs.BackSteps.{unAlpha, unBeta, unGamma}
+use Rattle.back_steps.specs.BackSteps.{unAlpha, unBeta, unGamma}
 use Rattle.answers.specs.Answers.{refuse}
 use Rattle.answers.specs.declared.Answer.{Answer}
 use Rattle.answers.specs.declared.Answer.the-variants.{Done, OutputLength, StartLength, NetCount, StepByte, ListLength}

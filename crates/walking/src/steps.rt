@@ -11,9 +11,9 @@ pub fn take_one(b: [u64; 16], kind: u8) -> [u64; 16]
         1 => masks::steps::alpha(b),
         2 => masks::steps::beta(b),
         3 => masks::steps::gamma(b),
-        4 => masks::back::back_alpha(b),
-        5 => masks::back::back_beta(b),
-        6 => masks::back::back_gamma(b),
+        4 => back_steps::back::back_alpha(b),
+        5 => back_steps::back::back_beta(b),
+        6 => back_steps::back::back_gamma(b),
         _ => b,
     }
 }

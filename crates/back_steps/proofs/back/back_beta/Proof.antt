@@ -1,12 +1,13 @@
 -- The calls in turn give the definition, and back-meets says the rest. Assumes nothing.
 use Rattle.masks.specs.Steps.{beta}
-use Rattle.masks.specs.Tables.{betaTable}
-use Rattle.masks.specs.BackSteps.{betaWord, unBeta}
-use Rattle.masks.proofs.Laws.{back-meets, beta-step}
-use Rattle.masks.proofs.Arrays.{array-block, beta-side-is}
+use Rattle.back_steps.specs.Tables.{betaTable}
+use Rattle.back_steps.specs.BackSteps.{betaWord, unBeta}
+use Rattle.back_steps.proofs.Laws.{back-meets, beta-step}
+use Rattle.masks.proofs.Arrays.{array-block}
+use Rattle.back_steps.proofs.Arrays.{beta-side-is}
 use borrow.Author.Needs.{needs}
-use Rattle.masks.proofs.back.back_beta.Statement.{statement}
-use Rattle.masks.proofs.back.back_beta.Tie as tie
+use Rattle.back_steps.proofs.back.back_beta.Statement.{statement}
+use Rattle.back_steps.proofs.back.back_beta.Tie as tie
 
 beta-run-requires : tie.Need-beta-run-requires
 beta-run-requires c κs = search needs

@@ -1,12 +1,13 @@
 -- The calls in turn give the definition, and back-meets says the rest. Assumes nothing.
 use Rattle.masks.specs.Steps.{gamma}
-use Rattle.masks.specs.Tables.{gammaTable}
-use Rattle.masks.specs.BackSteps.{unGamma}
-use Rattle.masks.proofs.Laws.{back-meets, gamma-step}
-use Rattle.masks.proofs.Arrays.{array-block, gamma-side-16, gamma-side-17}
+use Rattle.back_steps.specs.Tables.{gammaTable}
+use Rattle.back_steps.specs.BackSteps.{unGamma}
+use Rattle.back_steps.proofs.Laws.{back-meets, gamma-step}
+use Rattle.masks.proofs.Arrays.{array-block}
+use Rattle.back_steps.proofs.Arrays.{gamma-side-16, gamma-side-17}
 use borrow.Author.Needs.{needs}
-use Rattle.masks.proofs.back.back_gamma.Statement.{statement}
-use Rattle.masks.proofs.back.back_gamma.Tie as tie
+use Rattle.back_steps.proofs.back.back_gamma.Statement.{statement}
+use Rattle.back_steps.proofs.back.back_gamma.Tie as tie
 
 gamma-run-requires : tie.Need-gamma-run-requires
 gamma-run-requires c κs = search needs

@@ -16,11 +16,11 @@ use Rattle.words.proofs.Lists.{tab-ext}
 use Rattle.words.proofs.Words.{shl-lt, shl-xor}
 use Rattle.words.proofs.Xor.{xor-assoc, xor-cancel-l, xor-cancel-r, xor-swap}
 use Rattle.words.proofs.Blocks.{block-tab, block-is}
 use Rattle.masks.specs.Steps.{alphaW, beta, gamma}
-use Rattle.masks.specs.Tables.{gammaTable}
-use Rattle.masks.specs.BackSteps.{betaRun, betaSide, betaWord, unBeta, gammaRun, gammaSide, gammaWord, unGamma}
-use Rattle.masks.proofs.Solving.{betaOn, word-betaWord, beta-solved, beta-found, gammaX, gammaY, pair-gammaWord, gamma-solved, gamma-found}
-use Rattle.masks.proofs.Runs.{block-ext, beta-block, gamma-block, run, run-lt, run-at, run-new, run-of, beta-at, gamma-at}
+use Rattle.back_steps.specs.Tables.{gammaTable}
+use Rattle.back_steps.specs.BackSteps.{betaRun, betaSide, betaWord, unBeta, gammaRun, gammaSide, gammaWord, unGamma}
+use Rattle.back_steps.proofs.Solving.{betaOn, word-betaWord, beta-solved, beta-found, gammaX, gammaY, pair-gammaWord, gamma-solved, gamma-found}
+use Rattle.back_steps.proofs.Runs.{block-ext, beta-block, gamma-block, run, run-lt, run-at, run-new, run-of, beta-at, gamma-at}
 
 -- ---- exclusive or
 

@@ -1,12 +1,13 @@
 -- A literal of sixteen words is the definition's list, and back-meets says the rest. Assumes nothing.
 use Rattle.words.specs.Block.{Block}
 use Rattle.masks.specs.Steps.{alpha}
-use Rattle.masks.specs.BackSteps.{unAlpha}
-use Rattle.masks.proofs.Laws.{back-meets, alpha-step}
-use Rattle.masks.proofs.Arrays.{array-block, unAlpha-words}
+use Rattle.back_steps.specs.BackSteps.{unAlpha}
+use Rattle.back_steps.proofs.Laws.{back-meets, alpha-step}
+use Rattle.masks.proofs.Arrays.{array-block}
+use Rattle.back_steps.proofs.Arrays.{unAlpha-words}
 use borrow.Author.Needs.{needs}
-use Rattle.masks.proofs.back.back_alpha.Statement.{statement}
-use Rattle.masks.proofs.back.back_alpha.Tie as tie
+use Rattle.back_steps.proofs.back.back_alpha.Statement.{statement}
+use Rattle.back_steps.proofs.back.back_alpha.Tie as tie
 
 array-read-rotate-right : tie.Need-array-read-rotate-right
 array-read-rotate-right c = search needs

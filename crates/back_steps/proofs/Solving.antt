@@ -10,10 +10,10 @@ use lib.Pow.{pow-lt, pow-add, shl-shr}
 use lib.Bits.{bitXor, xor-zero-r}
 use Rattle.words.specs.Word.{rotR, rotL, shl}
 use Rattle.words.proofs.Words.{rotR-lt, rotR-xor, shl-lt, shl-xor}
-use Rattle.masks.specs.Tables.{betaTable, gammaTable}
-use Rattle.masks.specs.BackSteps.{chosen, betaWord, gammaWord}
-use Rattle.masks.proofs.Linear.{OnWord, OnPair, same, carried, joined, onJoined, word-id, word-xor, word-after, word-same, pair-xor, pair-after, pair-same}
-use Rattle.masks.proofs.Chosen.{word-chosen, chosen-zero, chosen-unit, small-words}
+use Rattle.back_steps.specs.Tables.{betaTable, gammaTable}
+use Rattle.back_steps.specs.BackSteps.{chosen, betaWord, gammaWord}
+use Rattle.back_steps.proofs.Linear.{OnWord, OnPair, same, carried, joined, onJoined, word-id, word-xor, word-after, word-same, pair-xor, pair-after, pair-same}
+use Rattle.back_steps.proofs.Chosen.{word-chosen, chosen-zero, chosen-unit, small-words}
 
 -- ---- what a step does to a word
 

@@ -8,9 +8,9 @@ use lib.ListN.{getD, take}
 use lib.Bits.{bitXor}
 use Rattle.words.specs.Sequence.{tab}
 use Rattle.words.specs.Block.{Block, xorBlock}
 use Rattle.masks.specs.Steps.{alpha, beta, gamma, OnlyBlock}
 use Rattle.words.specs.Word.{rotR, shl}
-use Rattle.masks.specs.Tables.{betaTable, gammaTable}
+use Rattle.back_steps.specs.Tables.{betaTable, gammaTable}
 
 -- back from alpha is direct
 unfoldable pub unAlpha : List ℕ → List ℕ

@@ -1,8 +1,8 @@
 -- Two calls, one after the other. Assumes nothing.
-use Rattle.masks.specs.BackSteps.{gammaWord}
+use Rattle.back_steps.specs.BackSteps.{gammaWord}
 use borrow.Author.Needs.{needs}
-use Rattle.masks.proofs.back.gamma_word.Statement.{statement}
-use Rattle.masks.proofs.back.gamma_word.Tie as tie
+use Rattle.back_steps.proofs.back.gamma_word.Statement.{statement}
+use Rattle.back_steps.proofs.back.gamma_word.Tie as tie
 
 choose-requires : tie.Need-choose-requires
 choose-requires c κs = search needs

@@ -5,11 +5,11 @@ use lib.Dec.{lit<}
 use native.Mathlib.Omega.{arith}
 use native.Mathlib.Nat.{mul-le-mul-left}
 use native.Mathlib.Numerals.{add-one}
-use Rattle.masks.specs.BackSteps.{chosen}
-use Rattle.masks.proofs.Chosen.{times-fits, bit}
+use Rattle.back_steps.specs.BackSteps.{chosen}
+use Rattle.back_steps.proofs.Chosen.{times-fits, bit}
 use borrow.Author.Needs.{needs, scaled-fits}
-use Rattle.masks.proofs.back.choose.Statement.{statement}
-use Rattle.masks.proofs.back.choose.Tie as tie
+use Rattle.back_steps.proofs.back.choose.Statement.{statement}
+use Rattle.back_steps.proofs.back.choose.Tie as tie
 
 abbrev Inv-loop : tie.InvT-loop
 Inv-loop t at step e r₀ n₀ r n = (n ≤ 64) × (r ≡ chosen t at step e n)

@@ -17,10 +17,10 @@ use Rattle.words.proofs.Lists.{getD-tab}
 use Rattle.words.proofs.Words.{rotR-lt, rotR-back, shl-lt}
 use Rattle.words.proofs.Xor.{xor-cancel-r}
 use Rattle.words.proofs.Blocks.{xor-block, getD-xor}
 use Rattle.masks.specs.Steps.{alpha, alphaW, beta, gamma}
-use Rattle.masks.specs.BackSteps.{unAlpha}
-use Rattle.masks.proofs.Linear.{OnPair, pair-xor}
-use Rattle.masks.proofs.Solving.{word-rotL, word-shl}
+use Rattle.back_steps.specs.BackSteps.{unAlpha}
+use Rattle.back_steps.proofs.Linear.{OnPair, pair-xor}
+use Rattle.back_steps.proofs.Solving.{word-rotL, word-shl}
 
 -- two blocks are equal when their words are
 pub block-ext : (s t : List ℕ) → Block s → Block t → ((i : ℕ) → i < 16 → getD s i 0 ≡ getD t i 0) → s ≡ t

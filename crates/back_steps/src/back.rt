@@ -8,8 +8,8 @@ ghost use mathlib.Core.Path.{_≡_};
 ghost use Prim.Native.Nat.{_+_, _*_, _<_};
 ghost use lib.ListN.{length};
 ghost use Rattle.words.specs.Sequence.{tab};
 ghost use Rattle.masks.specs.Steps.{alpha, beta, gamma, OnlyBlock};
-ghost use Rattle.masks.specs.BackSteps.{unAlpha, unBeta, unGamma, chosen, betaRun, gammaRun, gammaWord};
+ghost use Rattle.back_steps.specs.BackSteps.{unAlpha, unBeta, unGamma, chosen, betaRun, gammaRun, gammaWord};
 
 // Fifteen words move up by one place, and word 0 comes out of word 15.
 pub fn back_alpha(s: [u64; 16]) -> [u64; 16]

@@ -5,10 +5,10 @@ use mathlib.Core.List.{List}
 use Prim.Native.Nat.{ℕ}
 use Rattle.words.specs.Block.{Block, xorBlock, zeroBlock}
 use Rattle.words.proofs.Blocks.{xor-block, zero-block, xorBlock-self, xorBlock-swap}
 use Rattle.masks.specs.Steps.{alpha, beta, gamma, OnlyBlock}
-use Rattle.masks.specs.BackSteps.{unAlpha, unBeta, unGamma, BackSteps, Step}
-use Rattle.masks.proofs.Runs.{alpha-block, alpha-linear, beta-block, gamma-block, unAlpha-block, alpha-undo, alpha-redo}
-use Rattle.masks.proofs.Undoing.{unBeta-block, beta-undo, beta-redo, unGamma-block, gamma-undo, gamma-redo}
+use Rattle.back_steps.specs.BackSteps.{unAlpha, unBeta, unGamma, BackSteps, Step}
+use Rattle.back_steps.proofs.Runs.{alpha-block, alpha-linear, beta-block, gamma-block, unAlpha-block, alpha-undo, alpha-redo}
+use Rattle.back_steps.proofs.Undoing.{unBeta-block, beta-undo, beta-redo, unGamma-block, gamma-undo, gamma-redo}
 
 -- ---- steps keep exclusive or
 

@@ -1,0 +1,7 @@
+pub mod Linear
+pub mod Chosen
+pub mod Solving
+pub mod Runs
+pub mod Undoing
+pub mod Laws
+pub mod Arrays

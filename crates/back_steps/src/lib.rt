@@ -1,0 +1,3 @@
+// The back steps of a mask.
+pub mod back;
+mod tables;
