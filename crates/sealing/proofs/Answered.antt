@@ -1,17 +1,16 @@
 -- What seal and open answer is small. Assumes nothing.
 use mathlib.Core.Bool.{Bool, true, false, cond, not}
-use mathlib.Core.List.{List, _++_}
+use mathlib.Core.List.{List}
 use Prim.Native.Nat.{ℕ, _+_, _-_, _^_, _<_}
 use native.Mathlib.Omega.{arith}
 use lib.Dec.{eqb, ltb, lit<}
-use lib.ListN.{length, drop}
+use lib.ListN.{length}
 use borrow.Author.Tests.{ltb-false}
-use Rattle.mem.specs.Mem.{startOf}
 use Rattle.answers.specs.Answers.{valueOf}
 use Rattle.answers.specs.declared.Answer.{Answer}
 use Rattle.answers.proofs.Values.{refuse-lt}
 use Rattle.answers.specs.declared.Answer.the-variants.{Done, Mode, Rounds, KeyLength, NonceLength, HeaderLength, InputLength, OutputLength, TagMissing, TagDiffers}
-use Rattle.sealing.specs.Sealing.{parcelOf, sealCall, verdict, openCall}
+use Rattle.sealing.specs.Sealing.{sealCall, verdict, openCall}
 use Rattle.settings.specs.Settings.{isMode, isRounds, settings, isRefusal}
 
 pick-lt : (n : ℕ) (t : Bool) (a b : Answer) → valueOf a < n → valueOf b < n → valueOf (cond t a b) < n
@@ -37,8 +36,7 @@ module _ (mode rounds : ℕ) (key nonce header input out : List ℕ) where
   seal-small =
       refuse-lt (2 ^ 32) (isRefusal (settings mode rounds key nonce header)) _ out _ (settings-small mode rounds key nonce header)
       (λ a. refuse-lt (2 ^ 32) (ltb 65536 (length input)) InputLength out _ (lit< tt)
-      (λ b. refuse-lt (2 ^ 32) (ltb (length out) (length input + 32)) OutputLength out
-      (Done (length input + 32), parcelOf mode rounds (startOf rounds key nonce) header input ++ drop (length input + 32) out) (lit< tt)
+      (λ b. refuse-lt (2 ^ 32) (ltb (length out) (length input + 32)) OutputLength out _ (lit< tt)
       (λ c. omega (arith, ltb-false 65536 (length input) b))))
 
   pub open-small : valueOf (openCall mode rounds key nonce header input out .0) < 2 ^ 32
