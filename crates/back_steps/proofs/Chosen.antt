@@ -12,7 +12,7 @@ use lib.Pow.{pow-pos, pow-lt, pow-add, shl-shr}
 use lib.Bits.{bitXor, xor-lt, xor-self, xor-zero-r, xor-shr, xor-mod}
 use Rattle.words.proofs.Xor.{xor-swap}
 use Rattle.back_steps.specs.BackSteps.{chosen}
-use Rattle.back_steps.proofs.Linear.{OnWord, Digit, off, on, digit, same, carried, zero-kept}
+use Rattle.masks.proofs.Linear.{OnWord, Digit, off, on, digit, same, carried, zero-kept}
 
 -- ---- a word times a bit
 

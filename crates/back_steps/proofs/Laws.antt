@@ -1,29 +1,15 @@
--- The laws of the mask steps: each step and its back step undo each other and keep exclusive or, any two steps commute, and a back
--- step's value is the only block whose forward step gives the block at hand. Assumes nothing.
-use mathlib.Core.Path.{_≡_, refl, sym, ap, ap₂, _∙_}
+-- The laws of the back steps: a step and its back step undo each other and keep exclusive or, what commutes with a step commutes with
+-- its back step, and a back step's value is the only block whose forward step gives the block at hand. Assumes nothing.
+use mathlib.Core.Path.{_≡_, sym, ap, ap₂, _∙_}
 use mathlib.Core.List.{List}
 use Prim.Native.Nat.{ℕ}
-use Rattle.words.specs.Block.{Block, xorBlock, zeroBlock}
-use Rattle.words.proofs.Blocks.{xor-block, zero-block, xorBlock-self, xorBlock-swap}
+use Rattle.words.specs.Block.{Block, xorBlock}
+use Rattle.words.proofs.Blocks.{xor-block}
 use Rattle.masks.specs.Steps.{alpha, beta, gamma, OnlyBlock}
 use Rattle.back_steps.specs.BackSteps.{unAlpha, unBeta, unGamma, BackSteps, Step}
-use Rattle.back_steps.proofs.Runs.{alpha-block, alpha-linear, beta-block, gamma-block, unAlpha-block, alpha-undo, alpha-redo}
+use Rattle.back_steps.proofs.Runs.{unAlpha-block, alpha-undo, alpha-redo}
+use Rattle.masks.proofs.Laws.{alpha-block, alpha-linear, beta-block, gamma-block, beta-linear, gamma-linear}
 use Rattle.back_steps.proofs.Undoing.{unBeta-block, beta-undo, beta-redo, unGamma-block, gamma-undo, gamma-redo}
-
--- ---- steps keep exclusive or
-
-beta-linear : (s t : List ℕ) → Block s → Block t → beta (xorBlock s t) ≡ xorBlock (beta s) (beta t)
-unfolding beta
-beta-linear s t hs ht = ap (λ (a : List ℕ). xorBlock a (xorBlock s t)) (alpha-linear s t hs ht) ∙ xorBlock-swap (alpha s) (alpha t) s t
-
-gamma-linear : (s t : List ℕ) → Block s → Block t → gamma (xorBlock s t) ≡ xorBlock (gamma s) (gamma t)
-unfolding gamma
-gamma-linear s t hs ht =
-    let once = alpha-linear s t hs ht in
-    let twice = ap alpha once ∙ alpha-linear (alpha s) (alpha t) (alpha-block s hs) (alpha-block t ht) in
-    ap (λ (a : List ℕ). xorBlock a (xorBlock s t))
-    (ap₂ xorBlock twice once ∙ xorBlock-swap (alpha (alpha s)) (alpha (alpha t)) (alpha s) (alpha t))
-    ∙ xorBlock-swap (xorBlock (alpha (alpha s)) (alpha s)) (xorBlock (alpha (alpha t)) (alpha t)) s t
 
 -- ---- steps and back steps
 
@@ -67,11 +53,6 @@ module _ (f g : List ℕ → List ℕ) (step : Step f g) where
       let hg = step .off s h in
       ap (λ (t : List ℕ). g (k t)) (sym (step .redo s h)) ∙ ap g (sym (c (g s) hg)) ∙ step .undo (k (g s)) (on (g s) hg)
 
--- a step keeps the zero block
-pub zero-fixed : (f g : List ℕ → List ℕ) → Step f g → f zeroBlock ≡ zeroBlock
-zero-fixed f g step =
-    ap f (sym (xorBlock-self zeroBlock)) ∙ step .linear zeroBlock zeroBlock zero-block zero-block ∙ xorBlock-self (f zeroBlock)
-
 -- each back step's value is the only block whose forward step gives the block at hand
 pub back-steps : BackSteps
 back-steps = record {
@@ -79,30 +60,3 @@ back-steps = record {
   beta-only = only-back beta unBeta beta-step;
   gamma-only = only-back gamma unGamma gamma-step;
 }
-
--- ---- steps commute
-
--- a step that commutes with alpha commutes with beta and gamma
-module _ (f g : List ℕ → List ℕ) (step : Step f g) (with-alpha : (s : List ℕ) → Block s → f (alpha s) ≡ alpha (f s)) where
-  with-beta : (s : List ℕ) → Block s → f (beta s) ≡ beta (f s)
-  unfolding beta
-  with-beta s h =
-      step .linear (alpha s) s (alpha-block s h) h ∙ ap (λ (a : List ℕ). xorBlock a (f s)) (with-alpha s h)
-
-  with-gamma : (s : List ℕ) → Block s → f (gamma s) ≡ gamma (f s)
-  unfolding gamma
-  with-gamma s h =
-      let ha = alpha-block s h in
-      let haa = alpha-block (alpha s) ha in
-      step .linear (xorBlock (alpha (alpha s)) (alpha s)) s (xor-block (alpha (alpha s)) (alpha s) haa ha) h
-      ∙ ap (λ (a : List ℕ). xorBlock a (f s))
-      (step .linear (alpha (alpha s)) (alpha s) haa ha ∙ ap₂ xorBlock (with-alpha (alpha s) ha ∙ ap alpha (with-alpha s h)) (with-alpha s h))
-
-pub alpha-beta : (s : List ℕ) → Block s → alpha (beta s) ≡ beta (alpha s)
-alpha-beta = with-beta alpha unAlpha alpha-step (λ s h. refl)
-
-pub alpha-gamma : (s : List ℕ) → Block s → alpha (gamma s) ≡ gamma (alpha s)
-alpha-gamma = with-gamma alpha unAlpha alpha-step (λ s h. refl)
-
-pub beta-gamma : (s : List ℕ) → Block s → beta (gamma s) ≡ gamma (beta s)
-beta-gamma = with-gamma beta unBeta beta-step (λ s h. sym (alpha-beta s h))

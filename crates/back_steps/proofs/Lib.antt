@@ -1,4 +1,3 @@
-pub mod Linear
 pub mod Chosen
 pub mod Solving
 pub mod Runs

@@ -1,14 +1,13 @@
 -- Alpha word by word: the words of a mask and of those after it are one run, of which each mask is a window. Assumes nothing.
-use mathlib.Core.Path.{_≡_, refl, sym, ap, ap₂, _∙_, subst}
-use mathlib.Core.List.{List, [], _∷_}
+use mathlib.Core.Path.{_≡_, refl, sym, ap, ap₂, _∙_}
+use mathlib.Core.List.{List}
 use Prim.Native.Nat.{ℕ, zero, suc, _+_, _-_, _^_, _<_}
 use native.Mathlib.Nat.{add-comm, add-zero, zero-add}
 use native.Mathlib.Omega.{arith}
 use native.Mathlib.Decide.{decLt}
 use lib.Dec.{lit<}
-use lib.ListN.{length, getD, drop, length-append, length-take, length-drop, List·getD-append, List·getD-eq-default}
-use lib.Seq.{getD-at, getD-drop, getD-take, ext-getD}
-use lib.Pow.{pow-pos}
+use lib.ListN.{getD, length-take}
+use lib.Seq.{getD-take}
 use lib.Bits.{bitXor, xor-lt}
 use Rattle.words.specs.Sequence.{tab, times}
 use Rattle.words.specs.Word.{rotR, rotL, shl}
@@ -16,89 +15,10 @@ use Rattle.words.specs.Block.{Block, xorBlock}
 use Rattle.words.proofs.Lists.{getD-tab}
 use Rattle.words.proofs.Words.{rotR-lt, rotR-back, shl-lt}
 use Rattle.words.proofs.Xor.{xor-cancel-r}
-use Rattle.words.proofs.Blocks.{xor-block, getD-xor}
+use Rattle.words.proofs.Blocks.{getD-xor}
 use Rattle.masks.specs.Steps.{alpha, alphaW, beta, gamma}
 use Rattle.back_steps.specs.BackSteps.{unAlpha}
-use Rattle.back_steps.proofs.Linear.{OnPair, pair-xor}
-use Rattle.back_steps.proofs.Solving.{word-rotL, word-shl}
-
--- two blocks are equal when their words are
-pub block-ext : (s t : List ℕ) → Block s → Block t → ((i : ℕ) → i < 16 → getD s i 0 ≡ getD t i 0) → s ≡ t
-block-ext s t hs ht h =
-    ext-getD 0 s t (hs .long ∙ sym (ht .long)) (λ i p. h i (subst (λ (k : ℕ). i < k) (hs .long) p))
-
--- a list of sixteen is a block when each of its words fits
-pub block-of : (s : List ℕ) → length s ≡ 16 → ((i : ℕ) → i < 16 → getD s i 0 < 2 ^ 64) → Block s
-block-of s e h = record {
-  long = e;
-  words = λ i. elim (decLt i 16) [
-    | yes p ↦ h i p
-    | no q ↦ rw (List·getD-eq-default s 0 {n = i} (omega arith)) (pow-pos 64)
-  ];
-}
-
--- ---- one step of alpha
-
-pub pair-alphaW : OnPair alphaW
-unfolding alphaW
-pair-alphaW = pair-xor (rotL 53) (shl 13) word-rotL word-shl
-
-module _ (s : List ℕ) (b : Block s) where
-  fifteen : length (drop 1 s) ≡ 15
-  fifteen = length-drop 1 s ∙ ap (λ (n : ℕ). n - 1) (b .long)
-
-  -- words 1 to 15 move down
-  pub alpha-moves : (i : ℕ) → i < 15 → getD (alpha s) i 0 ≡ getD s (suc i) 0
-  unfolding alpha
-  alpha-moves i h =
-      List·getD-append (drop 1 s) (alphaW (getD s 0 0) (getD s 5 0) ∷ []) 0 i (rw fifteen h)
-      ∙ getD-drop 1 s i 0 ∙ ap (λ (n : ℕ). getD s n 0) (omega arith)
-
-  -- word 15 is new
-  pub alpha-new : getD (alpha s) 15 0 ≡ alphaW (getD s 0 0) (getD s 5 0)
-  unfolding alpha
-  alpha-new = getD-at (drop 1 s) (alphaW (getD s 0 0) (getD s 5 0)) [] 0 15 fifteen
-
-  pub alpha-block : Block (alpha s)
-  unfolding alpha
-  alpha-block = block-of (alpha s) (simp (length-append, length-drop) (omega arith)) word
-    where
-      word : (i : ℕ) → i < 16 → getD (alpha s) i 0 < 2 ^ 64
-      word i h = elim (decLt i 15) [
-        | yes p ↦ rw (alpha-moves i p) (b .words (suc i))
-        | no q ↦ let e : i ≡ 15 = omega arith in rw (e, alpha-new) (pair-alphaW .fits (getD s 0 0) (getD s 5 0) (b .words 0) (b .words 5))
-      ]
-
--- alpha keeps exclusive or
-pub alpha-linear : (s t : List ℕ) → Block s → Block t → alpha (xorBlock s t) ≡ xorBlock (alpha s) (alpha t)
-alpha-linear s t hs ht =
-    let ha = alpha-block s hs in
-    let hb = alpha-block t ht in
-    let hx = xor-block s t hs ht in
-    block-ext (alpha (xorBlock s t)) (xorBlock (alpha s) (alpha t)) (alpha-block (xorBlock s t) hx) (xor-block (alpha s) (alpha t) ha hb)
-    (λ i h. word i h ∙ sym (getD-xor (alpha s) (alpha t) i h))
-  where
-    word : (i : ℕ) → i < 16 → getD (alpha (xorBlock s t)) i 0 ≡ bitXor (getD (alpha s) i 0) (getD (alpha t) i 0)
-    word i h = elim (decLt i 15) [
-      | yes p ↦ alpha-moves (xorBlock s t) (xor-block s t hs ht) i p ∙ getD-xor s t (suc i) (omega arith)
-          ∙ sym (ap₂ bitXor (alpha-moves s hs i p) (alpha-moves t ht i p))
-      | no q ↦ let e : i ≡ 15 = omega arith in
-          rw e
-          (alpha-new (xorBlock s t) (xor-block s t hs ht)
-          ∙ ap₂ alphaW (getD-xor s t 0 (lit< tt)) (getD-xor s t 5 (lit< tt))
-          ∙ pair-alphaW .keeps (getD s 0 0) (getD s 5 0) (getD t 0 0) (getD t 5 0) (hs .words 0) (hs .words 5) (ht .words 0) (ht .words 5)
-          ∙ sym (ap₂ bitXor (alpha-new s hs) (alpha-new t ht)))
-    ]
-
-pub beta-block : (s : List ℕ) → Block s → Block (beta s)
-unfolding beta
-beta-block s b = xor-block (alpha s) s (alpha-block s b) b
-
-pub gamma-block : (s : List ℕ) → Block s → Block (gamma s)
-unfolding gamma
-gamma-block s b =
-    let ha = alpha-block s b in
-    xor-block (xorBlock (alpha (alpha s)) (alpha s)) s (xor-block (alpha (alpha s)) (alpha s) (alpha-block (alpha s) ha) ha) b
+use Rattle.masks.proofs.Laws.{alpha-block, alpha-moves, alpha-new, block-ext, block-of}
 
 -- ---- back from alpha
 

@@ -1,6 +1,6 @@
 -- The tables solve for the back steps: the rule of each is one test over the whole table, and it is carried to each row.
 -- Assumes nothing.
-use mathlib.Core.Path.{_≡_, refl, sym, ap, ap₂, _∙_}
+use mathlib.Core.Path.{_≡_, sym, ap, ap₂, _∙_}
 use Prim.Native.Nat.{ℕ, _+_, _-_, _*_, _/_, _%_, _^_, _<_}
 use native.Mathlib.Nat.{mul-mod-left, mod-eq-of-lt, div-eq-of-lt}
 use native.Mathlib.Omega.{arith}
@@ -9,20 +9,13 @@ use lib.ListN.{getD}
 use lib.Pow.{pow-lt, pow-add, shl-shr}
 use lib.Bits.{bitXor, xor-zero-r}
 use Rattle.words.specs.Word.{rotR, rotL, shl}
-use Rattle.words.proofs.Words.{rotR-lt, rotR-xor, shl-lt, shl-xor}
 use Rattle.back_steps.specs.Tables.{betaTable, gammaTable}
 use Rattle.back_steps.specs.BackSteps.{chosen, betaWord, gammaWord}
-use Rattle.back_steps.proofs.Linear.{OnWord, OnPair, same, carried, joined, onJoined, word-id, word-xor, word-after, word-same, pair-xor, pair-after, pair-same}
+use Rattle.masks.proofs.Laws.{word-rotL, word-shl}
+use Rattle.masks.proofs.Linear.{OnWord, OnPair, same, carried, joined, onJoined, word-id, word-xor, word-after, word-same, pair-xor, pair-after, pair-same}
 use Rattle.back_steps.proofs.Chosen.{word-chosen, chosen-zero, chosen-unit, small-words}
 
 -- ---- what a step does to a word
-
-pub word-rotL : OnWord (rotL 53)
-unfolding rotL
-word-rotL = record { fits = rotR-lt 11 53 refl; keeps = rotR-xor 11 53 refl }
-
-pub word-shl : OnWord (shl 13)
-word-shl = record { fits = λ x h. shl-lt 13 x; keeps = λ x y hx hy. shl-xor 13 x y }
 
 -- ---- backward beta: one word
 

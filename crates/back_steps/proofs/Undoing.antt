@@ -20,7 +20,8 @@ use Rattle.masks.specs.Steps.{alphaW, beta, gamma}
 use Rattle.back_steps.specs.Tables.{gammaTable}
 use Rattle.back_steps.specs.BackSteps.{betaRun, betaSide, betaWord, unBeta, gammaRun, gammaSide, gammaWord, unGamma}
 use Rattle.back_steps.proofs.Solving.{betaOn, word-betaWord, beta-solved, beta-found, gammaX, gammaY, pair-gammaWord, gamma-solved, gamma-found}
-use Rattle.back_steps.proofs.Runs.{block-ext, beta-block, gamma-block, run, run-lt, run-at, run-new, run-of, beta-at, gamma-at}
+use Rattle.back_steps.proofs.Runs.{run, run-lt, run-at, run-new, run-of, beta-at, gamma-at}
+use Rattle.masks.proofs.Laws.{block-ext, beta-block, gamma-block}
 
 -- ---- exclusive or
 

@@ -9,7 +9,8 @@ use Rattle.words.specs.Sequence.{times}
 use Rattle.words.specs.Block.{Block, xorBlock}
 use Rattle.masks.specs.Steps.{alpha, beta, gamma}
 use Rattle.back_steps.specs.BackSteps.{unAlpha, unBeta, unGamma, Step}
-use Rattle.back_steps.proofs.Laws.{alpha-step, beta-step, gamma-step, alpha-beta, alpha-gamma, beta-gamma, back-step, commute-back}
+use Rattle.back_steps.proofs.Laws.{alpha-step, beta-step, gamma-step, back-step, commute-back}
+use Rattle.masks.proofs.Laws.{alpha-beta, alpha-gamma, beta-gamma}
 use Rattle.walking.specs.Walking.{step, walked, taken, jumped}
 use Rattle.demands.specs.Demand3.{count, net}
 use Rattle.demands.proofs.Order.{Keeps, Commute, turn, taken-more, taken-less, taken-keeps, taken-commute}

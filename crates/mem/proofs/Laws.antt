@@ -13,7 +13,7 @@ use Rattle.words.proofs.Times.{times-keeps, times-commute}
 use Rattle.permutation.specs.Permutation.{perm, unPerm}
 use Rattle.permutation.proofs.Undone.{perm-block, unPerm-block, unPerm-perm, perm-unPerm}
 use Rattle.masks.specs.Steps.{alpha, beta, gamma}
-use Rattle.back_steps.proofs.Laws.{alpha-step, beta-step, gamma-step, alpha-beta, alpha-gamma}
+use Rattle.masks.proofs.Laws.{alpha-block, beta-block, gamma-block, alpha-beta, alpha-gamma}
 use Rattle.mem.specs.Mem.{startBlock, startOf, maskAt, under, unUnder, encipher, decipher}
 
 -- ---- masks
@@ -21,8 +21,8 @@ use Rattle.mem.specs.Mem.{startBlock, startOf, maskAt, under, unUnder, e
 pub mask-block : (start : List ℕ) → Block start → (i j k : ℕ) → Block (maskAt start i j k)
 unfolding maskAt
 mask-block start b i j k =
-    times-keeps Block gamma (gamma-step .on) k (times beta j (times alpha i start))
-    (times-keeps Block beta (beta-step .on) j (times alpha i start) (times-keeps Block alpha (alpha-step .on) i start b))
+    times-keeps Block gamma gamma-block k (times beta j (times alpha i start))
+    (times-keeps Block beta beta-block j (times alpha i start) (times-keeps Block alpha alpha-block i start b))
 
 -- alpha steps may come last: the mask (i, j, k) is reached from (0, j, k) by i of them
 pub mask-alpha : (start : List ℕ) → Block start → (i j k : ℕ) → maskAt start i j k ≡ times alpha i (maskAt start 0 j k)
@@ -30,9 +30,9 @@ unfolding maskAt times
 mask-alpha start b zero j k = refl
 mask-alpha start b (suc i) j k =
     let one = times alpha i start in
-    let one-block = times-keeps Block alpha (alpha-step .on) i start b in
-    ap (times gamma k) (sym (times-commute Block beta (beta-step .on) alpha alpha-beta j one one-block))
-    ∙ sym (times-commute Block gamma (gamma-step .on) alpha alpha-gamma k (times beta j one) (times-keeps Block beta (beta-step .on) j one one-block))
+    let one-block = times-keeps Block alpha alpha-block i start b in
+    ap (times gamma k) (sym (times-commute Block beta beta-block alpha alpha-beta j one one-block))
+    ∙ sym (times-commute Block gamma gamma-block alpha alpha-gamma k (times beta j one) (times-keeps Block beta beta-block j one one-block))
     ∙ ap alpha (mask-alpha start b i j k)
 
 -- ---- P under a mask

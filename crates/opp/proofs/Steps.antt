@@ -6,7 +6,7 @@ use Rattle.words.specs.Sequence.{times}
 use Rattle.words.specs.Block.{Block}
 use Rattle.words.proofs.Times.{times-keeps, times-commute}
 use Rattle.masks.specs.Steps.{alpha, beta, gamma}
-use Rattle.back_steps.proofs.Laws.{alpha-step, beta-step, gamma-step, beta-gamma}
+use Rattle.masks.proofs.Laws.{alpha-block, beta-block, gamma-block, beta-gamma}
 use Rattle.mem.specs.Mem.{maskAt}
 
 module _ (start : List ℕ) (b : Block start) (i j k : ℕ) where
@@ -15,5 +15,5 @@ module _ (start : List ℕ) (b : Block start) (i j k : ℕ) where
   unfolding maskAt times
   beta-on =
       let one = times alpha i start in
-      times-commute Block gamma (gamma-step .on) beta beta-gamma k (times beta j one)
-      (times-keeps Block beta (beta-step .on) j one (times-keeps Block alpha (alpha-step .on) i start b))
+      times-commute Block gamma gamma-block beta beta-gamma k (times beta j one)
+      (times-keeps Block beta beta-block j one (times-keeps Block alpha alpha-block i start b))
