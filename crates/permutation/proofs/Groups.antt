@@ -1,4 +1,4 @@
--- The groups of word numbers: each is four places of a block, and groups apart come in any order. Assumes nothing.
+-- The groups of word numbers: each is four places of a block. Assumes nothing.
 use mathlib.Core.List.{List, [], _∷_}
 use Prim.Native.Nat.{ℕ, zero, suc, _<_}
 use native.Mathlib.Omega.{arith}

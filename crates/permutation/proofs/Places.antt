@@ -28,20 +28,6 @@ pub record Row (row : List ℕ) : Type 0 where
 pub row-in : (row : List ℕ) → Row row → (getD row 0 0 < 16) × ((getD row 1 0 < 16) × ((getD row 2 0 < 16) × (getD row 3 0 < 16)))
 row-in row r = (r .a-in, (r .b-in, (r .c-in, r .d-in)))
 
--- a place that is none of the row's
-pub record Off (row : List ℕ) (i : ℕ) : Type 0 where
-  pub a : getD row 0 0 ≢ i
-  pub b : getD row 1 0 ≢ i
-  pub c : getD row 2 0 ≢ i
-  pub d : getD row 3 0 ≢ i
-
--- two rows with no place in common
-pub record Apart (row other : List ℕ) : Type 0 where
-  pub a : Off row (getD other 0 0)
-  pub b : Off row (getD other 1 0)
-  pub c : Off row (getD other 2 0)
-  pub d : Off row (getD other 3 0)
-
 -- ---- four places read and written
 
 -- a place is written again, past one to three stores at other places
@@ -129,64 +115,3 @@ undo-at {f} {h} u row r = record {
   back-forth = undone f h (u .back-forth) row r;
   forth-back = undone h f (u .forth-back) row r;
 }
-
--- ---- rows apart
-
--- a store at a place off the row
-set-put : (row : List ℕ) (q : Quad) (s : List ℕ) (i v : ℕ) → Off row i → set (put row q s) i v ≡ put row q (set s i v)
-unfolding put
-set-put row q s i v o =
-    let s0 = set s (getD row 0 0) (q .a) in
-    let s1 = set s0 (getD row 1 0) (q .b) in
-    let s2 = set s1 (getD row 2 0) (q .c) in
-    rw (
-      set-comm s2 (getD row 3 0) i (q .d) v (o .d),
-      set-comm s1 (getD row 2 0) i (q .c) v (o .c),
-      set-comm s0 (getD row 1 0) i (q .b) v (o .b),
-      set-comm s (getD row 0 0) i (q .a) v (o .a),
-    )
-
-flip : {x y : ℕ} → x ≢ y → y ≢ x
-flip h e = h (sym e)
-
--- a load at a place off the row
-getD-put : (row : List ℕ) (q : Quad) (s : List ℕ) (i : ℕ) → Off row i → getD (put row q s) i 0 ≡ getD s i 0
-unfolding put
-getD-put row q s i o =
-    let s0 = set s (getD row 0 0) (q .a) in
-    let s1 = set s0 (getD row 1 0) (q .b) in
-    let s2 = set s1 (getD row 2 0) (q .c) in
-    getD-set-other s2 _ i _ 0 (flip (o .d)) ∙ getD-set-other s1 _ i _ 0 (flip (o .c))
-    ∙ getD-set-other s0 _ i _ 0 (flip (o .b)) ∙ getD-set-other s _ i _ 0 (flip (o .a))
-
-module _ (row other : List ℕ) (a : Apart row other) where
-  pub apart-flip : Apart other row
-  apart-flip = record {
-    a = record { a = flip (a .a .a); b = flip (a .b .a); c = flip (a .c .a); d = flip (a .d .a) };
-    b = record { a = flip (a .a .b); b = flip (a .b .b); c = flip (a .c .b); d = flip (a .d .b) };
-    c = record { a = flip (a .a .c); b = flip (a .b .c); c = flip (a .c .c); d = flip (a .d .c) };
-    d = record { a = flip (a .a .d); b = flip (a .b .d); c = flip (a .c .d); d = flip (a .d .d) };
-  }
-
-  pub put-comm : (p q : Quad) (s : List ℕ) → put other q (put row p s) ≡ put row p (put other q s)
-  unfolding put
-  put-comm p q s =
-      let s0 = set s (getD other 0 0) (q .a) in
-      let s1 = set s0 (getD other 1 0) (q .b) in
-      let s2 = set s1 (getD other 2 0) (q .c) in
-      rw (
-        set-put row p s (getD other 0 0) (q .a) (a .a),
-        set-put row p s0 (getD other 1 0) (q .b) (a .b),
-        set-put row p s1 (getD other 2 0) (q .c) (a .c),
-        set-put row p s2 (getD other 3 0) (q .d) (a .d),
-      )
-
-  pub pick-other : (p : Quad) (s : List ℕ) → pick other (put row p s) ≡ pick other s
-  unfolding pick
-  pick-other p s = rw (getD-put row p s (getD other 0 0) (a .a), getD-put row p s (getD other 1 0) (a .b), getD-put row p s (getD other 2 0) (a .c), getD-put row p s (getD other 3 0) (a .d))
-
--- steps at rows apart come in any order
-pub step-comm : (f h : Quad → Quad) (row other s : List ℕ) → Apart row other → stepAt h other (stepAt f row s) ≡ stepAt f row (stepAt h other s)
-unfolding stepAt
-step-comm f h row other s a =
-    rw (pick-other row other a (f (pick row s)) s, pick-other other row (apart-flip row other a) (h (pick other s)) s) (put-comm row other a (f (pick row s)) (h (pick other s)) s)
