@@ -7,14 +7,14 @@ use lib.Bits.{bitXor}
 use Rattle.words.specs.Sequence.{tab}
 use Rattle.words.specs.Word.{rotR, shl}
 use Rattle.words.proofs.Blocks.{block-is}
-use Rattle.back_steps.specs.BackSteps.{unAlpha, betaRun, betaSide, gammaRun, gammaSide}
+use Rattle.back_steps.specs.BackSteps.{backAlpha, betaRun, betaSide, gammaRun, gammaSide}
 use Rattle.words.specs.Block.{Block}
 
 -- word 0 and fifteen words
-pub unAlpha-words : (s : List ℕ) → Block s
-    → unAlpha s ≡ rotR 53 (bitXor (getD s 15 0) (shl 13 (getD s 4 0))) ∷ getD s 0 0 ∷ getD s 1 0 ∷ getD s 2 0 ∷ getD s 3 0 ∷ getD s 4 0 ∷ getD s 5 0 ∷ getD s 6 0 ∷ getD s 7 0 ∷ getD s 8 0 ∷ getD s 9 0 ∷ getD s 10 0 ∷ getD s 11 0 ∷ getD s 12 0 ∷ getD s 13 0 ∷ getD s 14 0 ∷ []
-unfolding unAlpha tab
-unAlpha-words s b = ap (λ (t : List ℕ). rotR 53 (bitXor (getD s 15 0) (shl 13 (getD s 4 0))) ∷ take 15 t) (block-is s b)
+pub backAlpha-words : (s : List ℕ) → Block s
+    → backAlpha s ≡ rotR 53 (bitXor (getD s 15 0) (shl 13 (getD s 4 0))) ∷ getD s 0 0 ∷ getD s 1 0 ∷ getD s 2 0 ∷ getD s 3 0 ∷ getD s 4 0 ∷ getD s 5 0 ∷ getD s 6 0 ∷ getD s 7 0 ∷ getD s 8 0 ∷ getD s 9 0 ∷ getD s 10 0 ∷ getD s 11 0 ∷ getD s 12 0 ∷ getD s 13 0 ∷ getD s 14 0 ∷ []
+unfolding backAlpha tab
+backAlpha-words s b = ap (λ (t : List ℕ). rotR 53 (bitXor (getD s 15 0) (shl 13 (getD s 4 0))) ∷ take 15 t) (block-is s b)
 
 -- what is solved for, from the run that starts with zero
 pub beta-side-is : (b p : List ℕ) → p ≡ tab (betaRun b 0) 16 → bitXor (bitXor (getD p 15 0) (getD b 15 0)) (shl 13 (getD p 5 0)) ≡ betaSide b

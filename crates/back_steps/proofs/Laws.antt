@@ -6,21 +6,21 @@ use Prim.Native.Nat.{ℕ}
 use Rattle.words.specs.Block.{Block, xorBlock}
 use Rattle.words.proofs.Blocks.{xor-block}
 use Rattle.masks.specs.Steps.{alpha, beta, gamma, OnlyBlock}
-use Rattle.back_steps.specs.BackSteps.{unAlpha, unBeta, unGamma, BackSteps, Step}
-use Rattle.back_steps.proofs.Runs.{unAlpha-block, alpha-undo, alpha-redo}
+use Rattle.back_steps.specs.BackSteps.{backAlpha, backBeta, backGamma, BackSteps, Step}
+use Rattle.back_steps.proofs.Runs.{backAlpha-block, alpha-undo, alpha-redo}
 use Rattle.masks.proofs.Laws.{alpha-block, alpha-linear, beta-block, gamma-block, beta-linear, gamma-linear}
-use Rattle.back_steps.proofs.Undoing.{unBeta-block, beta-undo, beta-redo, unGamma-block, gamma-undo, gamma-redo}
+use Rattle.back_steps.proofs.Undoing.{backBeta-block, beta-undo, beta-redo, backGamma-block, gamma-undo, gamma-redo}
 
 -- ---- steps and back steps
 
-pub alpha-step : Step alpha unAlpha
-alpha-step = record { on = alpha-block; off = unAlpha-block; undo = alpha-undo; redo = alpha-redo; linear = alpha-linear }
+pub alpha-step : Step alpha backAlpha
+alpha-step = record { on = alpha-block; off = backAlpha-block; undo = alpha-undo; redo = alpha-redo; linear = alpha-linear }
 
-pub beta-step : Step beta unBeta
-beta-step = record { on = beta-block; off = unBeta-block; undo = beta-undo; redo = beta-redo; linear = beta-linear }
+pub beta-step : Step beta backBeta
+beta-step = record { on = beta-block; off = backBeta-block; undo = beta-undo; redo = beta-redo; linear = beta-linear }
 
-pub gamma-step : Step gamma unGamma
-gamma-step = record { on = gamma-block; off = unGamma-block; undo = gamma-undo; redo = gamma-redo; linear = gamma-linear }
+pub gamma-step : Step gamma backGamma
+gamma-step = record { on = gamma-block; off = backGamma-block; undo = gamma-undo; redo = gamma-redo; linear = gamma-linear }
 
 module _ (f g : List ℕ → List ℕ) (step : Step f g) where
   -- the back step's value is the only block whose forward step gives the block at hand
@@ -56,7 +56,7 @@ module _ (f g : List ℕ → List ℕ) (step : Step f g) where
 -- each back step's value is the only block whose forward step gives the block at hand
 pub back-steps : BackSteps
 back-steps = record {
-  alpha-only = only-back alpha unAlpha alpha-step;
-  beta-only = only-back beta unBeta beta-step;
-  gamma-only = only-back gamma unGamma gamma-step;
+  alpha-only = only-back alpha backAlpha alpha-step;
+  beta-only = only-back beta backBeta beta-step;
+  gamma-only = only-back gamma backGamma gamma-step;
 }

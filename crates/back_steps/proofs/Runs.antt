@@ -17,7 +17,7 @@ use Rattle.words.proofs.Words.{rotR-lt, rotR-back, shl-lt}
 use Rattle.words.proofs.Xor.{xor-cancel-r}
 use Rattle.words.proofs.Blocks.{getD-xor}
 use Rattle.masks.specs.Steps.{alpha, alphaW, beta, gamma}
-use Rattle.back_steps.specs.BackSteps.{unAlpha}
+use Rattle.back_steps.specs.BackSteps.{backAlpha}
 use Rattle.masks.proofs.Laws.{alpha-block, alpha-moves, alpha-new, block-ext, block-of}
 
 -- ---- back from alpha
@@ -30,42 +30,42 @@ module _ (s : List ℕ) (b : Block s) where
   turned-lt : turned s < 2 ^ 64
   turned-lt = xor-lt 64 (getD s 15 0) (shl 13 (getD s 4 0)) (b .words 15) (shl-lt 13 (getD s 4 0))
 
-  pub unAlpha-moves : (i : ℕ) → i < 15 → getD (unAlpha s) (suc i) 0 ≡ getD s i 0
-  unfolding unAlpha
-  unAlpha-moves i h = getD-take 15 s i 0 h
+  pub backAlpha-moves : (i : ℕ) → i < 15 → getD (backAlpha s) (suc i) 0 ≡ getD s i 0
+  unfolding backAlpha
+  backAlpha-moves i h = getD-take 15 s i 0 h
 
-  pub unAlpha-block : Block (unAlpha s)
-  unfolding unAlpha
-  unAlpha-block = block-of (unAlpha s) (simp length-take (omega arith)) word
+  pub backAlpha-block : Block (backAlpha s)
+  unfolding backAlpha
+  backAlpha-block = block-of (backAlpha s) (simp length-take (omega arith)) word
     where
-      word : (i : ℕ) → i < 16 → getD (unAlpha s) i 0 < 2 ^ 64
+      word : (i : ℕ) → i < 16 → getD (backAlpha s) i 0 < 2 ^ 64
       word zero h = rotR-lt 53 11 refl (turned s) turned-lt
-      word (suc i) h = rw (unAlpha-moves i (omega arith)) (b .words i)
+      word (suc i) h = rw (backAlpha-moves i (omega arith)) (b .words i)
 
-  pub alpha-redo : alpha (unAlpha s) ≡ s
-  unfolding unAlpha alphaW rotL
-  alpha-redo = block-ext (alpha (unAlpha s)) s (alpha-block (unAlpha s) unAlpha-block) b word
+  pub alpha-redo : alpha (backAlpha s) ≡ s
+  unfolding backAlpha alphaW rotL
+  alpha-redo = block-ext (alpha (backAlpha s)) s (alpha-block (backAlpha s) backAlpha-block) b word
     where
-      word : (i : ℕ) → i < 16 → getD (alpha (unAlpha s)) i 0 ≡ getD s i 0
+      word : (i : ℕ) → i < 16 → getD (alpha (backAlpha s)) i 0 ≡ getD s i 0
       word i h = elim (decLt i 15) [
-        | yes p ↦ alpha-moves (unAlpha s) unAlpha-block i p ∙ unAlpha-moves i p
+        | yes p ↦ alpha-moves (backAlpha s) backAlpha-block i p ∙ backAlpha-moves i p
         | no q ↦ let e : i ≡ 15 = omega arith in
             rw e
-            (alpha-new (unAlpha s) unAlpha-block
-            ∙ ap₂ (λ (x y : ℕ). bitXor x (shl 13 y)) (rotR-back 53 11 refl (turned s) turned-lt) (unAlpha-moves 4 (lit< tt))
+            (alpha-new (backAlpha s) backAlpha-block
+            ∙ ap₂ (λ (x y : ℕ). bitXor x (shl 13 y)) (rotR-back 53 11 refl (turned s) turned-lt) (backAlpha-moves 4 (lit< tt))
             ∙ xor-cancel-r (getD s 15 0) (shl 13 (getD s 4 0)))
       ]
 
-pub alpha-undo : (s : List ℕ) → Block s → unAlpha (alpha s) ≡ s
-unfolding unAlpha alphaW rotL
+pub alpha-undo : (s : List ℕ) → Block s → backAlpha (alpha s) ≡ s
+unfolding backAlpha alphaW rotL
 alpha-undo s b =
-    block-ext (unAlpha (alpha s)) s (unAlpha-block (alpha s) (alpha-block s b)) b word
+    block-ext (backAlpha (alpha s)) s (backAlpha-block (alpha s) (alpha-block s b)) b word
   where
-    word : (i : ℕ) → i < 16 → getD (unAlpha (alpha s)) i 0 ≡ getD s i 0
+    word : (i : ℕ) → i < 16 → getD (backAlpha (alpha s)) i 0 ≡ getD s i 0
     word zero h =
         ap₂ (λ (x y : ℕ). rotR 53 (bitXor x (shl 13 y))) (alpha-new s b) (alpha-moves s b 4 (lit< tt))
         ∙ ap (rotR 53) (xor-cancel-r (rotR 11 (getD s 0 0)) (shl 13 (getD s 5 0))) ∙ rotR-back 11 53 refl (getD s 0 0) (b .words 0)
-    word (suc i) h = unAlpha-moves (alpha s) (alpha-block s b) i (omega arith) ∙ alpha-moves s b i (omega arith)
+    word (suc i) h = backAlpha-moves (alpha s) (alpha-block s b) i (omega arith) ∙ alpha-moves s b i (omega arith)
 
 -- ---- the run of words
 

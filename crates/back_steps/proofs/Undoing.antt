@@ -18,7 +18,7 @@ use Rattle.words.proofs.Xor.{xor-assoc, xor-cancel-l, xor-cancel-r, xor-swap}
 use Rattle.words.proofs.Blocks.{block-tab, block-is}
 use Rattle.masks.specs.Steps.{alphaW, beta, gamma}
 use Rattle.back_steps.specs.Tables.{gammaTable}
-use Rattle.back_steps.specs.BackSteps.{betaRun, betaSide, betaWord, unBeta, gammaRun, gammaSide, gammaWord, unGamma}
+use Rattle.back_steps.specs.BackSteps.{betaRun, betaSide, betaWord, backBeta, gammaRun, gammaSide, gammaWord, backGamma}
 use Rattle.back_steps.proofs.Solving.{betaOn, word-betaWord, beta-solved, beta-found, gammaX, gammaY, pair-gammaWord, gamma-solved, gamma-found}
 use Rattle.back_steps.proofs.Runs.{run, run-lt, run-at, run-new, run-of, beta-at, gamma-at}
 use Rattle.masks.proofs.Laws.{block-ext, beta-block, gamma-block}
@@ -70,26 +70,26 @@ module _ (b : List ℕ) (h : Block b) where
   beta-word-lt : betaWord (betaSide b) < 2 ^ 64
   beta-word-lt = word-betaWord .fits (betaSide b) (beta-side-lt b h)
 
-  pub unBeta-block : Block (unBeta b)
-  unfolding unBeta
-  unBeta-block = block-tab (betaRun b (onlyWord b)) (λ i p. beta-fits b h (onlyWord b) beta-word-lt i)
+  pub backBeta-block : Block (backBeta b)
+  unfolding backBeta
+  backBeta-block = block-tab (betaRun b (onlyWord b)) (λ i p. beta-fits b h (onlyWord b) beta-word-lt i)
 
   -- the words of the solution go on as the run does
-  beta-runs : (i : ℕ) → i < 17 → run (unBeta b) i ≡ betaRun b (onlyWord b) i
-  unfolding unBeta betaRun
-  beta-runs = run-of (betaRun b (onlyWord b)) unBeta-block 1 (lit< tt) new
+  beta-runs : (i : ℕ) → i < 17 → run (backBeta b) i ≡ betaRun b (onlyWord b) i
+  unfolding backBeta betaRun
+  beta-runs = run-of (betaRun b (onlyWord b)) backBeta-block 1 (lit< tt) new
     where
       new : (n : ℕ) → n < 1 → alphaW (betaRun b (onlyWord b) n) (betaRun b (onlyWord b) (n + 5)) ≡ betaRun b (onlyWord b) (n + 16)
       new zero p = same-where _ _ _ _ (beta-condition b (onlyWord b)) (beta-solved (betaSide b) (beta-side-lt b h))
       new (suc n) p = absurd (omega arith)
 
-  pub beta-redo : beta (unBeta b) ≡ b
-  beta-redo = block-ext (beta (unBeta b)) b (beta-block (unBeta b) unBeta-block) h word
+  pub beta-redo : beta (backBeta b) ≡ b
+  beta-redo = block-ext (beta (backBeta b)) b (beta-block (backBeta b) backBeta-block) h word
     where
-      word : (i : ℕ) → i < 16 → getD (beta (unBeta b)) i 0 ≡ getD b i 0
+      word : (i : ℕ) → i < 16 → getD (beta (backBeta b)) i 0 ≡ getD b i 0
       word i p =
           let x = onlyWord b in
-          beta-at (unBeta b) unBeta-block i p ∙ ap₂ bitXor (beta-runs (i + 1) (omega arith) ∙ beta-next b x i) (beta-runs i (omega arith))
+          beta-at (backBeta b) backBeta-block i p ∙ ap₂ bitXor (beta-runs (i + 1) (omega arith) ∙ beta-next b x i) (beta-runs i (omega arith))
           ∙ xor-comm (bitXor (betaRun b x i) (getD b i 0)) (betaRun b x i) ∙ xor-cancel-l (betaRun b x i) (getD b i 0)
 
 module _ (s : List ℕ) (h : Block s) where
@@ -108,8 +108,8 @@ module _ (s : List ℕ) (h : Block s) where
       (ap (alphaW (run s 0)) (beta-follows 5 (lit< tt)) ∙ sym (run-new s h 0) ∙ sym (beta-follows 16 (lit< tt)))))
       ∙ beta-found (run s 0) (run-lt s h 0)
 
-  pub beta-undo : unBeta (beta s) ≡ s
-  unfolding unBeta
+  pub beta-undo : backBeta (beta s) ≡ s
+  unfolding backBeta
   beta-undo =
       ap (λ (x : ℕ). tab (betaRun (beta s) x) 16) beta-first-word
       ∙ tab-ext (betaRun (beta s) (run s 0)) (λ i. getD s i 0) 16 (λ i p. beta-follows i (omega arith) ∙ sym (run-at s h i p))
@@ -204,15 +204,15 @@ module _ (b : List ℕ) (h : Block b) where
   gamma-word-lt : (at : ℕ) → gammaWord gammaTable at (gammaSide b 0) (gammaSide b 1) < 2 ^ 64
   gamma-word-lt at = pair-gammaWord at .fits (gammaSide b 0) (gammaSide b 1) (gamma-side-lt b h 0) (gamma-side-lt b h 1)
 
-  pub unGamma-block : Block (unGamma b)
-  unfolding unGamma
-  unGamma-block =
+  pub backGamma-block : Block (backGamma b)
+  unfolding backGamma
+  backGamma-block =
       block-tab (gammaRun b (firstWord b) (secondWord b)) (λ i p. gamma-fits b h (firstWord b) (secondWord b) (gamma-word-lt 0) (gamma-word-lt 1) i)
 
   -- the words of the solution go on as the run does
-  gamma-runs : (i : ℕ) → i < 18 → run (unGamma b) i ≡ gammaRun b (firstWord b) (secondWord b) i
-  unfolding unGamma gammaRun
-  gamma-runs = run-of (gammaRun b (firstWord b) (secondWord b)) unGamma-block 2 (lit< tt) new
+  gamma-runs : (i : ℕ) → i < 18 → run (backGamma b) i ≡ gammaRun b (firstWord b) (secondWord b) i
+  unfolding backGamma gammaRun
+  gamma-runs = run-of (gammaRun b (firstWord b) (secondWord b)) backGamma-block 2 (lit< tt) new
     where
       solved : (gammaX (firstWord b) (secondWord b) ≡ gammaSide b 0) × (gammaY (firstWord b) (secondWord b) ≡ gammaSide b 1)
       solved = gamma-solved (gammaSide b 0) (gammaSide b 1) (gamma-side-lt b h 0) (gamma-side-lt b h 1)
@@ -223,13 +223,13 @@ module _ (b : List ℕ) (h : Block b) where
       new (suc zero) p = same-where _ _ _ _ (gamma-condition-y b (firstWord b) (secondWord b)) (solved .1)
       new (suc (suc n)) p = absurd (omega arith)
 
-  pub gamma-redo : gamma (unGamma b) ≡ b
-  gamma-redo = block-ext (gamma (unGamma b)) b (gamma-block (unGamma b) unGamma-block) h word
+  pub gamma-redo : gamma (backGamma b) ≡ b
+  gamma-redo = block-ext (gamma (backGamma b)) b (gamma-block (backGamma b) backGamma-block) h word
     where
-      word : (i : ℕ) → i < 16 → getD (gamma (unGamma b)) i 0 ≡ getD b i 0
+      word : (i : ℕ) → i < 16 → getD (gamma (backGamma b)) i 0 ≡ getD b i 0
       word i p =
           let u = gammaRun b (firstWord b) (secondWord b) in
-          gamma-at (unGamma b) unGamma-block i p
+          gamma-at (backGamma b) backGamma-block i p
           ∙ ap₂ bitXor
           (ap₂ bitXor (gamma-runs (i + 2) (omega arith) ∙ gamma-next b (firstWord b) (secondWord b) i) (gamma-runs (i + 1) (omega arith)))
           (gamma-runs i (omega arith))
@@ -254,8 +254,8 @@ module _ (s : List ℕ) (h : Block s) where
   gamma-new n p =
       ap (alphaW (run s n)) (gamma-follows (n + 5) (omega arith)) ∙ sym (run-new s h n) ∙ sym (gamma-follows (n + 16) (omega arith))
 
-  pub gamma-undo : unGamma (gamma s) ≡ s
-  unfolding unGamma
+  pub gamma-undo : backGamma (gamma s) ≡ s
+  unfolding backGamma
   gamma-undo =
       let found = gamma-found (run s 0) (run s 1) (run-lt s h 0) (run-lt s h 1) in
       let x = sym (same-where _ _ _ _ (sym (gamma-condition-x (gamma s) (run s 0) (run s 1))) (gamma-new 0 (lit< tt))) in

@@ -13,8 +13,8 @@ use Rattle.words.specs.Word.{rotR, shl}
 use Rattle.back_steps.specs.Tables.{betaTable, gammaTable}
 
 -- back from alpha is direct
-unfoldable pub unAlpha : List ℕ → List ℕ
-unAlpha s = rotR 53 (bitXor (getD s 15 0) (shl 13 (getD s 4 0))) ∷ take 15 s
+unfoldable pub backAlpha : List ℕ → List ℕ
+backAlpha s = rotR 53 (bitXor (getD s 15 0) (shl 13 (getD s 4 0))) ∷ take 15 s
 
 -- the words of a table at places at, at + step, .. that the lowest n bits of e choose, exclusive or
 unfoldable pub chosen : List ℕ → ℕ → ℕ → ℕ → ℕ → ℕ
@@ -35,8 +35,8 @@ unfoldable pub betaWord : ℕ → ℕ
 betaWord e = chosen betaTable 0 1 e 64
 
 -- the backward beta step solves for one word
-unfoldable pub unBeta : List ℕ → List ℕ
-unBeta b = tab (betaRun b (betaWord (betaSide b))) 16
+unfoldable pub backBeta : List ℕ → List ℕ
+backBeta b = tab (betaRun b (betaWord (betaSide b))) 16
 
 -- word i of the run from x, y on in which three neighbours, exclusive or, give the words of b
 unfoldable pub gammaRun : List ℕ → ℕ → ℕ → ℕ → ℕ
@@ -54,17 +54,17 @@ unfoldable pub gammaWord : List ℕ → ℕ → ℕ → ℕ → ℕ
 gammaWord t at e f = bitXor (chosen t at 2 e 64) (chosen t (at + 128) 2 f 64)
 
 -- the backward gamma step solves for two words
-unfoldable pub unGamma : List ℕ → List ℕ
-unGamma b =
+unfoldable pub backGamma : List ℕ → List ℕ
+backGamma b =
     tab
     (gammaRun b (gammaWord gammaTable 0 (gammaSide b 0) (gammaSide b 1)) (gammaWord gammaTable 1 (gammaSide b 0) (gammaSide b 1)))
     16
 
 -- each has a back step: its value is the only block whose forward step gives the block at hand; proved as back-steps in proofs/Laws
 pub record BackSteps : Type 0 where
-  pub alpha-only : (s : List ℕ) → Block s → OnlyBlock alpha s (unAlpha s)
-  pub beta-only : (s : List ℕ) → Block s → OnlyBlock beta s (unBeta s)
-  pub gamma-only : (s : List ℕ) → Block s → OnlyBlock gamma s (unGamma s)
+  pub alpha-only : (s : List ℕ) → Block s → OnlyBlock alpha s (backAlpha s)
+  pub beta-only : (s : List ℕ) → Block s → OnlyBlock beta s (backBeta s)
+  pub gamma-only : (s : List ℕ) → Block s → OnlyBlock gamma s (backGamma s)
 
 -- a step and its back step: both keep blocks, each undoes the other, and the step keeps exclusive or
 pub record Step (forward back : List ℕ → List ℕ) : Type 0 where

@@ -9,11 +9,11 @@ ghost use Prim.Native.Nat.{_+_, _*_, _<_};
 ghost use lib.ListN.{length};
 ghost use Rattle.words.specs.Sequence.{tab};
 ghost use Rattle.masks.specs.Steps.{alpha, beta, gamma, OnlyBlock};
-ghost use Rattle.back_steps.specs.BackSteps.{unAlpha, unBeta, unGamma, chosen, betaRun, gammaRun, gammaWord};
+ghost use Rattle.back_steps.specs.BackSteps.{backAlpha, backBeta, backGamma, chosen, betaRun, gammaRun, gammaWord};
 
 // Fifteen words move up by one place, and word 0 comes out of word 15.
 pub fn back_alpha(s: [u64; 16]) -> [u64; 16]
-    ensures { λ r. ⌜ (r ≡ unAlpha s) × OnlyBlock alpha s r ⌝ }
+    ensures { λ r. ⌜ (r ≡ backAlpha s) × OnlyBlock alpha s r ⌝ }
 {
     let w = rotate_right(s[15] ^ shift_left(s[4], 13), 53);
     [
@@ -67,7 +67,7 @@ fn beta_run(b: [u64; 16], x: u64) -> [u64; 16]
 
 // Solves for the first word; the others follow.
 pub fn back_beta(s: [u64; 16]) -> [u64; 16]
-    ensures { λ r. ⌜ (r ≡ unBeta s) × OnlyBlock beta s r ⌝ }
+    ensures { λ r. ⌜ (r ≡ backBeta s) × OnlyBlock beta s r ⌝ }
 {
     let p = beta_run(s, 0);
     let e = (p[15] ^ s[15]) ^ shift_left(p[5], 13);
@@ -102,7 +102,7 @@ fn gamma_word(t: &[u64], at: usize, e: u64, f: u64) -> u64
 
 // Solves for the first two words; the others follow.
 pub fn back_gamma(s: [u64; 16]) -> [u64; 16]
-    ensures { λ r. ⌜ (r ≡ unGamma s) × OnlyBlock gamma s r ⌝ }
+    ensures { λ r. ⌜ (r ≡ backGamma s) × OnlyBlock gamma s r ⌝ }
 {
     let p = gamma_run(s, 0, 0);
     let u = (p[15] ^ p[14]) ^ s[14];

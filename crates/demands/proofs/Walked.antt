@@ -8,7 +8,7 @@ use borrow.Author.Tests.{ne-eqb}
 use Rattle.words.specs.Sequence.{times}
 use Rattle.words.specs.Block.{Block, xorBlock}
 use Rattle.masks.specs.Steps.{alpha, beta, gamma}
-use Rattle.back_steps.specs.BackSteps.{unAlpha, unBeta, unGamma, Step}
+use Rattle.back_steps.specs.BackSteps.{backAlpha, backBeta, backGamma, Step}
 use Rattle.back_steps.proofs.Laws.{alpha-step, beta-step, gamma-step, back-step, commute-back}
 use Rattle.masks.proofs.Laws.{alpha-beta, alpha-gamma, beta-gamma}
 use Rattle.walking.specs.Walking.{step, walked, taken, jumped}
@@ -18,28 +18,28 @@ use Rattle.demands.proofs.Order.{Keeps, Commute, turn, taken-more, take
 -- ---- a move ahead of a jump counts for its own kind
 
 module _ (i j k : ℤ) (s : List ℕ) (b : Block s) where
-  first : (h : List ℕ → List ℕ) (i′ : ℤ) → taken alpha unAlpha i (h s) ≡ taken alpha unAlpha i′ s → jumped i j k (h s) ≡ jumped i′ j k s
+  first : (h : List ℕ → List ℕ) (i′ : ℤ) → taken alpha backAlpha i (h s) ≡ taken alpha backAlpha i′ s → jumped i j k (h s) ≡ jumped i′ j k s
   unfolding jumped
-  first h i′ e = ap (λ (x : List ℕ). taken gamma unGamma k (taken beta unBeta j x)) e
+  first h i′ e = ap (λ (x : List ℕ). taken gamma backGamma k (taken beta backBeta j x)) e
 
-  reached : Block (taken alpha unAlpha i s)
-  reached = taken-keeps alpha unAlpha alpha-step i s b
+  reached : Block (taken alpha backAlpha i s)
+  reached = taken-keeps alpha backAlpha alpha-step i s b
 
   second : (h : List ℕ → List ℕ) (j′ : ℤ) → Keeps h → Commute h alpha
-      → ((t : List ℕ) → Block t → taken beta unBeta j (h t) ≡ taken beta unBeta j′ t) → jumped i j k (h s) ≡ jumped i j′ k s
+      → ((t : List ℕ) → Block t → taken beta backBeta j (h t) ≡ taken beta backBeta j′ t) → jumped i j k (h s) ≡ jumped i j′ k s
   unfolding jumped
   second h j′ keeps c e =
-      ap (taken gamma unGamma k)
-      (ap (taken beta unBeta j) (sym (taken-commute alpha unAlpha alpha-step h keeps c i s b))
-      ∙ e (taken alpha unAlpha i s) reached)
+      ap (taken gamma backGamma k)
+      (ap (taken beta backBeta j) (sym (taken-commute alpha backAlpha alpha-step h keeps c i s b))
+      ∙ e (taken alpha backAlpha i s) reached)
 
   third : (h : List ℕ → List ℕ) (k′ : ℤ) → Keeps h → Commute h alpha → Commute h beta
-      → ((t : List ℕ) → Block t → taken gamma unGamma k (h t) ≡ taken gamma unGamma k′ t) → jumped i j k (h s) ≡ jumped i j k′ s
+      → ((t : List ℕ) → Block t → taken gamma backGamma k (h t) ≡ taken gamma backGamma k′ t) → jumped i j k (h s) ≡ jumped i j k′ s
   unfolding jumped
   third h k′ keeps c d e =
-      ap (λ (x : List ℕ). taken gamma unGamma k (taken beta unBeta j x)) (sym (taken-commute alpha unAlpha alpha-step h keeps c i s b))
-      ∙ ap (taken gamma unGamma k) (sym (taken-commute beta unBeta beta-step h keeps d j (taken alpha unAlpha i s) reached))
-      ∙ e (taken beta unBeta j (taken alpha unAlpha i s)) (taken-keeps beta unBeta beta-step j (taken alpha unAlpha i s) reached)
+      ap (λ (x : List ℕ). taken gamma backGamma k (taken beta backBeta j x)) (sym (taken-commute alpha backAlpha alpha-step h keeps c i s b))
+      ∙ ap (taken gamma backGamma k) (sym (taken-commute beta backBeta beta-step h keeps d j (taken alpha backAlpha i s) reached))
+      ∙ e (taken beta backBeta j (taken alpha backAlpha i s)) (taken-keeps beta backBeta beta-step j (taken alpha backAlpha i s) reached)
 
 -- ---- any two moves commute
 
@@ -52,14 +52,14 @@ gamma-alpha = turn alpha gamma alpha-gamma
 gamma-beta : Commute gamma beta
 gamma-beta = turn beta gamma beta-gamma
 
-unBeta-alpha : Commute unBeta alpha
-unBeta-alpha = commute-back beta unBeta beta-step alpha (alpha-step .on) beta-alpha
+backBeta-alpha : Commute backBeta alpha
+backBeta-alpha = commute-back beta backBeta beta-step alpha (alpha-step .on) beta-alpha
 
-unGamma-alpha : Commute unGamma alpha
-unGamma-alpha = commute-back gamma unGamma gamma-step alpha (alpha-step .on) gamma-alpha
+backGamma-alpha : Commute backGamma alpha
+backGamma-alpha = commute-back gamma backGamma gamma-step alpha (alpha-step .on) gamma-alpha
 
-unGamma-beta : Commute unGamma beta
-unGamma-beta = commute-back gamma unGamma gamma-step beta (beta-step .on) gamma-beta
+backGamma-beta : Commute backGamma beta
+backGamma-beta = commute-back gamma backGamma gamma-step beta (beta-step .on) gamma-beta
 
 -- ---- the whole list
 
@@ -81,13 +81,13 @@ ahead : (k : ℕ) (l s : List ℕ) → Block s
     → jumped (net 1 l) (net 2 l) (net 3 l) (step k s) ≡ jumped (net 1 (k ∷ l)) (net 2 (k ∷ l)) (net 3 (k ∷ l)) s
 unfolding step net count
 ahead zero l s b = refl
-ahead (suc zero) l s b = first _ _ _ s b alpha _ (taken-more alpha unAlpha alpha-step (count 1 l) (count 4 l) s b)
-ahead (suc (suc zero)) l s b = second _ _ _ s b beta _ (beta-step .on) beta-alpha (taken-more beta unBeta beta-step (count 2 l) (count 5 l))
-ahead (suc (suc (suc zero))) l s b = third _ _ _ s b gamma _ (gamma-step .on) gamma-alpha gamma-beta (taken-more gamma unGamma gamma-step (count 3 l) (count 6 l))
-ahead (suc (suc (suc (suc zero)))) l s b = first _ _ _ s b unAlpha _ (taken-less alpha unAlpha alpha-step (count 1 l) (count 4 l) s b)
-ahead (suc (suc (suc (suc (suc zero))))) l s b = second _ _ _ s b unBeta _ (beta-step .off) unBeta-alpha (taken-less beta unBeta beta-step (count 2 l) (count 5 l))
+ahead (suc zero) l s b = first _ _ _ s b alpha _ (taken-more alpha backAlpha alpha-step (count 1 l) (count 4 l) s b)
+ahead (suc (suc zero)) l s b = second _ _ _ s b beta _ (beta-step .on) beta-alpha (taken-more beta backBeta beta-step (count 2 l) (count 5 l))
+ahead (suc (suc (suc zero))) l s b = third _ _ _ s b gamma _ (gamma-step .on) gamma-alpha gamma-beta (taken-more gamma backGamma gamma-step (count 3 l) (count 6 l))
+ahead (suc (suc (suc (suc zero)))) l s b = first _ _ _ s b backAlpha _ (taken-less alpha backAlpha alpha-step (count 1 l) (count 4 l) s b)
+ahead (suc (suc (suc (suc (suc zero))))) l s b = second _ _ _ s b backBeta _ (beta-step .off) backBeta-alpha (taken-less beta backBeta beta-step (count 2 l) (count 5 l))
 ahead (suc (suc (suc (suc (suc (suc zero)))))) l s b =
-    third _ _ _ s b unGamma _ (gamma-step .off) unGamma-alpha unGamma-beta (taken-less gamma unGamma gamma-step (count 3 l) (count 6 l))
+    third _ _ _ s b backGamma _ (gamma-step .off) backGamma-alpha backGamma-beta (taken-less gamma backGamma gamma-step (count 3 l) (count 6 l))
 ahead (suc (suc (suc (suc (suc (suc (suc k))))))) l s b = stays (suc (suc (suc (suc (suc (suc (suc k))))))) (omega arith) l s
 
 stay : Step (λ s. s) (λ s. s)
@@ -97,12 +97,12 @@ stay = record { on = λ s b. b; off = λ s b. b; undo = λ s b. refl; redo = λ 
 pub moves : (k : ℕ) → (back : List ℕ → List ℕ) × Step (step k) back
 unfolding step
 moves zero = (_, stay)
-moves (suc zero) = (unAlpha, alpha-step)
-moves (suc (suc zero)) = (unBeta, beta-step)
-moves (suc (suc (suc zero))) = (unGamma, gamma-step)
-moves (suc (suc (suc (suc zero)))) = (alpha, back-step alpha unAlpha alpha-step)
-moves (suc (suc (suc (suc (suc zero))))) = (beta, back-step beta unBeta beta-step)
-moves (suc (suc (suc (suc (suc (suc zero)))))) = (gamma, back-step gamma unGamma gamma-step)
+moves (suc zero) = (backAlpha, alpha-step)
+moves (suc (suc zero)) = (backBeta, beta-step)
+moves (suc (suc (suc zero))) = (backGamma, gamma-step)
+moves (suc (suc (suc (suc zero)))) = (alpha, back-step alpha backAlpha alpha-step)
+moves (suc (suc (suc (suc (suc zero))))) = (beta, back-step beta backBeta beta-step)
+moves (suc (suc (suc (suc (suc (suc zero)))))) = (gamma, back-step gamma backGamma gamma-step)
 moves (suc (suc (suc (suc (suc (suc (suc k))))))) = (_, stay)
 
 pub walked-keeps : (l : List ℕ) → Keeps (walked l)

@@ -10,8 +10,8 @@ use Rattle.words.specs.Word.{addW, rotR, rotL, shl}
 use Rattle.words.specs.Block.{le, lowBytes, wordAt, blockOf, wordBytes, bytesOf, zeroBlock, xorAt, xorBlock, xorBytes}
 use Rattle.permutation.specs.Permutation.{gOf, half, pick, put, stepAt, gAt, over, groups, round, perm}
 use Rattle.masks.specs.Steps.{alphaW, alpha, beta, gamma}
-use Rattle.back_steps.specs.BackSteps.{unAlpha}
-use Rattle.mem.specs.Mem.{startBlock, startOf, maskAt, under, encipher}
+use Rattle.back_steps.specs.BackSteps.{backAlpha}
+use Rattle.mem.specs.Mem.{startBlock, startOf, maskAt, encipher, E}
 use Rattle.blockplan.specs.Plan.{whole, left, hasLeft, blockAt, xorOver, xorIf, ciphered, tagBytes, same}
 use Rattle.opp.specs.Opp.{padded, headerAt, oppSum, oppCheck, oppTag, sealAt, oppStream, oppCipher}
 use Rattle.mro.specs.Mro.{blocks, absorbAt, mroSum, lengths, mroTag, counter, mroStream, streamed, mroCipher}
@@ -31,7 +31,7 @@ holds (r ∷ rows) e zero h = same-true (r .got) (r .want) (both (same (r .got) 
 holds (r ∷ rows) e (suc i) h = holds rows (both (same (r .got) (r .want)) (right rows) e .1) i (omega arith)
 
 computed : right table ≡ true
-unfolding right table same word g full sealed zeroBlock tab cat fold times zeros le lowBytes wordAt blockOf wordBytes bytesOf xorBytes perm startBlock startOf maskAt under encipher whole left hasLeft blockAt xorOver xorIf ciphered tagBytes padded headerAt oppSum oppCheck oppTag sealAt oppStream oppCipher blocks absorbAt mroSum lengths mroTag counter mroStream streamed mroCipher tagOf cipherOf parcelOf gOf half addW rotR rotL shl round over groups gAt stepAt pick put alpha alphaW beta gamma xorBlock xorAt unAlpha
+unfolding right table same word g full sealed zeroBlock tab cat fold times zeros le lowBytes wordAt blockOf wordBytes bytesOf xorBytes perm startBlock startOf maskAt encipher E whole left hasLeft blockAt xorOver xorIf ciphered tagBytes padded headerAt oppSum oppCheck oppTag sealAt oppStream oppCipher blocks absorbAt mroSum lengths mroTag counter mroStream streamed mroCipher tagOf cipherOf parcelOf gOf half addW rotR rotL shl round over groups gAt stepAt pick put alpha alphaW beta gamma xorBlock xorAt backAlpha
 computed = refl
 
 pub known-answers : KnownAnswers

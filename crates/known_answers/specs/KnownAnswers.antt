@@ -8,7 +8,7 @@ use Rattle.words.specs.Sequence.{tab, zeros}
 use Rattle.words.specs.Block.{bytesOf, zeroBlock}
 use Rattle.permutation.specs.Permutation.{gOf, round}
 use Rattle.masks.specs.Steps.{alpha, beta, gamma}
-use Rattle.back_steps.specs.BackSteps.{unAlpha}
+use Rattle.back_steps.specs.BackSteps.{backAlpha}
 use Rattle.mem.specs.Mem.{startOf}
 use Rattle.blockplan.specs.Plan.{same}
 use Rattle.opp.specs.Opp.{padded}
@@ -47,7 +47,7 @@ table =
     ∷ record { got = alpha (word 5 1); want = set (word 4 1) 15 0x2000 }  -- P5
     ∷ record { got = alpha (word 5 0x0008000000000000); want = word 4 0x0008000000000000 }  -- P6
     ∷ record { got = beta (word 0 1); want = set (word 0 1) 15 0x0020000000000000 }  -- P7
-    ∷ record { got = unAlpha (word 15 1); want = word 0 0x800 }  -- P8
+    ∷ record { got = backAlpha (word 15 1); want = word 0 0x800 }  -- P8
     ∷ record { got = bytesOf (padded full); want = full ++ (1 ∷ []) }  -- P9
     ∷ record { got = sealed 1 4 []; want = zeros 32 }  -- P10, OPP and MRO, both round counts
     ∷ record { got = sealed 1 6 []; want = zeros 32 }

@@ -10,11 +10,11 @@ use Rattle.words.specs.Block.{Block, Bytes, wordAt, blockOf, xorBlock}
 use Rattle.words.proofs.Lists.{length-tab, getD-tab}
 use Rattle.words.proofs.Blocks.{xor-block, xorBlock-cancel, below-tab, block-blockOf}
 use Rattle.words.proofs.Times.{times-keeps, times-commute}
-use Rattle.permutation.specs.Permutation.{perm, unPerm}
-use Rattle.permutation.proofs.Undone.{perm-block, unPerm-block, unPerm-perm, perm-unPerm}
+use Rattle.permutation.specs.Permutation.{perm, backPerm}
+use Rattle.permutation.proofs.Undone.{perm-block, backPerm-block, backPerm-perm, perm-backPerm}
 use Rattle.masks.specs.Steps.{alpha, beta, gamma}
 use Rattle.masks.proofs.Laws.{alpha-block, beta-block, gamma-block, alpha-beta, alpha-gamma}
-use Rattle.mem.specs.Mem.{startBlock, startOf, maskAt, under, unUnder, encipher, decipher}
+use Rattle.mem.specs.Mem.{startBlock, startOf, maskAt, encipher, decipher, E, D}
 
 -- ---- masks
 
@@ -38,48 +38,48 @@ mask-alpha start b (suc i) j k =
 -- ---- P under a mask
 
 module _ (n : ℕ) (mask block : List ℕ) (m : Block mask) (b : Block block) where
-  pub under-block : Block (under n mask block)
-  unfolding under
-  under-block = xor-block (perm n (xorBlock block mask)) mask (perm-block n (xorBlock block mask) (xor-block block mask b m)) m
+  pub encipher-block : Block (encipher n mask block)
+  unfolding encipher
+  encipher-block = xor-block (perm n (xorBlock block mask)) mask (perm-block n (xorBlock block mask) (xor-block block mask b m)) m
 
-  pub unUnder-block : Block (unUnder n mask block)
-  unfolding unUnder
-  unUnder-block = xor-block (unPerm n (xorBlock block mask)) mask (unPerm-block n (xorBlock block mask) (xor-block block mask b m)) m
+  pub decipher-block : Block (decipher n mask block)
+  unfolding decipher
+  decipher-block = xor-block (backPerm n (xorBlock block mask)) mask (backPerm-block n (xorBlock block mask) (xor-block block mask b m)) m
 
-  pub unUnder-under : unUnder n mask (under n mask block) ≡ block
-  unfolding under unUnder
-  unUnder-under =
+  pub decipher-encipher : decipher n mask (encipher n mask block) ≡ block
+  unfolding encipher decipher
+  decipher-encipher =
       let inner = xor-block block mask b m in
-      ap (λ (x : List ℕ). xorBlock (unPerm n x) mask) (xorBlock-cancel (perm n (xorBlock block mask)) mask (perm-block n (xorBlock block mask) inner))
-      ∙ ap (λ (x : List ℕ). xorBlock x mask) (unPerm-perm n (xorBlock block mask) inner)
+      ap (λ (x : List ℕ). xorBlock (backPerm n x) mask) (xorBlock-cancel (perm n (xorBlock block mask)) mask (perm-block n (xorBlock block mask) inner))
+      ∙ ap (λ (x : List ℕ). xorBlock x mask) (backPerm-perm n (xorBlock block mask) inner)
       ∙ xorBlock-cancel block mask b
 
-  pub under-unUnder : under n mask (unUnder n mask block) ≡ block
-  unfolding under unUnder
-  under-unUnder =
+  pub encipher-decipher : encipher n mask (decipher n mask block) ≡ block
+  unfolding encipher decipher
+  encipher-decipher =
       let inner = xor-block block mask b m in
-      ap (λ (x : List ℕ). xorBlock (perm n x) mask) (xorBlock-cancel (unPerm n (xorBlock block mask)) mask (unPerm-block n (xorBlock block mask) inner))
-      ∙ ap (λ (x : List ℕ). xorBlock x mask) (perm-unPerm n (xorBlock block mask) inner)
+      ap (λ (x : List ℕ). xorBlock (perm n x) mask) (xorBlock-cancel (backPerm n (xorBlock block mask)) mask (backPerm-block n (xorBlock block mask) inner))
+      ∙ ap (λ (x : List ℕ). xorBlock x mask) (perm-backPerm n (xorBlock block mask) inner)
       ∙ xorBlock-cancel block mask b
 
 -- ---- E and D
 
 module _ (n : ℕ) (start block : List ℕ) (l : Block start) (b : Block block) (i j k : ℕ) where
-  pub encipher-block : Block (encipher n start i j k block)
-  unfolding encipher
-  encipher-block = under-block n (maskAt start i j k) block (mask-block start l i j k) b
+  pub E-block : Block (E n start i j k block)
+  unfolding E
+  E-block = encipher-block n (maskAt start i j k) block (mask-block start l i j k) b
 
-  pub decipher-block : Block (decipher n start i j k block)
-  unfolding decipher
-  decipher-block = unUnder-block n (maskAt start i j k) block (mask-block start l i j k) b
+  pub D-block : Block (D n start i j k block)
+  unfolding D
+  D-block = decipher-block n (maskAt start i j k) block (mask-block start l i j k) b
 
-  pub decipher-encipher : decipher n start i j k (encipher n start i j k block) ≡ block
-  unfolding encipher decipher
-  decipher-encipher = unUnder-under n (maskAt start i j k) block (mask-block start l i j k) b
+  pub D-E : D n start i j k (E n start i j k block) ≡ block
+  unfolding E D
+  D-E = decipher-encipher n (maskAt start i j k) block (mask-block start l i j k) b
 
-  pub encipher-decipher : encipher n start i j k (decipher n start i j k block) ≡ block
-  unfolding encipher decipher
-  encipher-decipher = under-unUnder n (maskAt start i j k) block (mask-block start l i j k) b
+  pub E-D : E n start i j k (D n start i j k block) ≡ block
+  unfolding E D
+  E-D = encipher-decipher n (maskAt start i j k) block (mask-block start l i j k) b
 
 -- ---- the start
 

@@ -3,7 +3,7 @@ use mathlib.Core.List.{List, _++_}
 use Prim.Native.Nat.{ℕ}
 use Rattle.words.specs.Sequence.{tab, times, zeros}
 use Rattle.words.specs.Block.{wordAt, xorBlock}
-use Rattle.permutation.specs.Permutation.{perm, unPerm}
+use Rattle.permutation.specs.Permutation.{perm, backPerm}
 use Rattle.masks.specs.Steps.{alpha, beta, gamma}
 
 -- the nonce in words 0 and 1, zero in words 2 to 11, the key in words 12 to 15
@@ -19,17 +19,17 @@ unfoldable pub maskAt : List ℕ → ℕ → ℕ → ℕ → List ℕ
 maskAt start i j k = times gamma k (times beta j (times alpha i start))
 
 -- P of (block xor mask), xor mask
-unfoldable pub under : ℕ → List ℕ → List ℕ → List ℕ
-under rounds mask block = xorBlock (perm rounds (xorBlock block mask)) mask
+unfoldable pub encipher : ℕ → List ℕ → List ℕ → List ℕ
+encipher rounds mask block = xorBlock (perm rounds (xorBlock block mask)) mask
 
 -- the same with the back permutation
-unfoldable pub unUnder : ℕ → List ℕ → List ℕ → List ℕ
-unUnder rounds mask block = xorBlock (unPerm rounds (xorBlock block mask)) mask
+unfoldable pub decipher : ℕ → List ℕ → List ℕ → List ℕ
+decipher rounds mask block = xorBlock (backPerm rounds (xorBlock block mask)) mask
 
 -- E(i, j, k) of a block, for a round count and a start
-unfoldable pub encipher : ℕ → List ℕ → ℕ → ℕ → ℕ → List ℕ → List ℕ
-encipher rounds start i j k block = under rounds (maskAt start i j k) block
+unfoldable pub E : ℕ → List ℕ → ℕ → ℕ → ℕ → List ℕ → List ℕ
+E rounds start i j k block = encipher rounds (maskAt start i j k) block
 
 -- D is the same with the back permutation
-unfoldable pub decipher : ℕ → List ℕ → ℕ → ℕ → ℕ → List ℕ → List ℕ
-decipher rounds start i j k block = unUnder rounds (maskAt start i j k) block
+unfoldable pub D : ℕ → List ℕ → ℕ → ℕ → ℕ → List ℕ → List ℕ
+D rounds start i j k block = decipher rounds (maskAt start i j k) block

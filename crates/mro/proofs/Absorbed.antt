@@ -10,7 +10,7 @@ use Rattle.words.specs.Sequence.{times}
 use Rattle.words.specs.Block.{Block, blockOf, xorBlock}
 use Rattle.words.proofs.Blocks.{blockOf-ext}
 use Rattle.masks.specs.Steps.{alpha, beta}
-use Rattle.mem.specs.Mem.{maskAt, under, encipher}
+use Rattle.mem.specs.Mem.{maskAt, encipher, E}
 use Rattle.mem.proofs.Laws.{mask-alpha}
 use Rattle.blockplan.specs.Plan.{whole, left, hasLeft, blockAt, xorOver}
 use Rattle.blockplan.specs.Stepped.{stepped}
@@ -40,7 +40,7 @@ padded-zero s = blockOf-ext (s ++ (0 ∷ [])) s (zero-more s)
 -- the padded block comes last
 pub summed-left : (rounds : ℕ) (first s sum next : List ℕ) → 128 * (length s / 128) < length s
     → sum ≡ xorOver (stepped rounds first s) (whole s)
-    → next ≡ xorBlock sum (under rounds (times alpha (whole s) first) (blockOf (drop (128 * whole s) s ++ (0 ∷ []))))
+    → next ≡ xorBlock sum (encipher rounds (times alpha (whole s) first) (blockOf (drop (128 * whole s) s ++ (0 ∷ []))))
     → next ≡ xorOver (stepped rounds first s) (blocks s)
 unfolding stepped blockAt
 summed-left rounds first s sum next h e q =
@@ -49,10 +49,10 @@ summed-left rounds first s sum next h e q =
 -- E(i, j, 0) of each block, by alpha steps from the mask (0, j, 0)
 pub absorbed : (rounds : ℕ) (start : List ℕ) (j : ℕ) (s : List ℕ) (n : ℕ) → Block start
     → xorOver (stepped rounds (maskAt start 0 j 0) s) n ≡ xorOver (absorbAt rounds start j s) n
-unfolding stepped absorbAt encipher
+unfolding stepped absorbAt E
 absorbed rounds start j s n b =
     xorOver-ext (stepped rounds (maskAt start 0 j 0) s) (absorbAt rounds start j s) n
-    (λ i h. ap (λ (m : List ℕ). under rounds m (blockAt s i)) (sym (mask-alpha start b i j 0)))
+    (λ i h. ap (λ (m : List ℕ). encipher rounds m (blockAt s i)) (sym (mask-alpha start b i j 0)))
 
 pub sum-is : (rounds : ℕ) (start header message : List ℕ) → Block start
     → xorBlock (xorOver (stepped rounds start header) (blocks header)) (xorOver (stepped rounds (beta start) message) (blocks message))

@@ -5,7 +5,7 @@ use Prim.Native.Nat.{ℕ, suc}
 use lib.ListN.{length}
 use Rattle.words.specs.Sequence.{tab, zeros}
 use Rattle.words.specs.Block.{wordAt, xorBlock}
-use Rattle.mem.specs.Mem.{encipher}
+use Rattle.mem.specs.Mem.{E}
 use Rattle.blockplan.specs.Plan.{whole, hasLeft, blockAt, xorOver, ciphered, tagBytes}
 
 -- the number of blocks, a padded one included; leftovers are padded with zeros only, as blockAt does
@@ -14,7 +14,7 @@ blocks s = cond (hasLeft s) (suc (whole s)) (whole s)
 
 -- block i of the header, E(i, 0, 0) of it, and of the message, E(i, 1, 0) of it: j is 0 for the header and 1 for the message
 unfoldable pub absorbAt : ℕ → List ℕ → ℕ → List ℕ → ℕ → List ℕ
-absorbAt rounds start j s i = encipher rounds start i j 0 (blockAt s i)
+absorbAt rounds start j s i = E rounds start i j 0 (blockAt s i)
 
 -- Sum: xor of E(i, 0, 0) over header blocks and E(i, 1, 0) over message blocks, padded ones included
 unfoldable pub mroSum : ℕ → List ℕ → List ℕ → List ℕ → List ℕ
@@ -28,7 +28,7 @@ lengths header message = zeros 14 ++ (length header ∷ length message ∷ [])
 -- Tag: first 32 bytes of E(0, 2, 0) of Sum xor the two lengths
 unfoldable pub mroTag : ℕ → List ℕ → List ℕ → List ℕ → List ℕ
 mroTag rounds start header message =
-    tagBytes (encipher rounds start 0 2 0 (xorBlock (mroSum rounds start header message) (lengths header message)))
+    tagBytes (E rounds start 0 2 0 (xorBlock (mroSum rounds start header message) (lengths header message)))
 
 -- the block holding the tag in words 0 to 3, i in word 15, zero between
 unfoldable pub counter : List ℕ → ℕ → List ℕ
@@ -36,7 +36,7 @@ counter tag i = tab (wordAt tag) 4 ++ (zeros 11 ++ (i ∷ []))
 
 -- E(0, 0, 1) of that block
 unfoldable pub mroStream : ℕ → List ℕ → List ℕ → ℕ → List ℕ
-mroStream rounds start tag i = encipher rounds start 0 0 1 (counter tag i)
+mroStream rounds start tag i = E rounds start 0 0 1 (counter tag i)
 
 -- message block i is xored with that
 unfoldable pub streamed : ℕ → List ℕ → List ℕ → ℕ → List ℕ → List ℕ

@@ -11,7 +11,7 @@ ghost use mathlib.Core.List.{_++_};
 ghost use Prim.Native.Nat.{_≤_};
 ghost use lib.ListN.{length, drop};
 ghost use Rattle.words.specs.Block.{blockOf};
-ghost use Rattle.mem.specs.Mem.{under};
+ghost use Rattle.mem.specs.Mem.{encipher as encipherOf};
 ghost use Rattle.blockplan.specs.Plan.{tagBytes};
 ghost use Rattle.mro.specs.Mro.{counter, mroCipher};
 
@@ -29,7 +29,7 @@ pub fn load_tag(tag: &[u8]) -> [u64; 16]
 
 // The stream's block i: of the tag's block only the first four words count.
 fn stream_block(tag: [u64; 16], i: usize, mask: [u64; 16], rounds: u32) -> [u64; 16]
-    ensures { λ r. ⌜ r ≡ under rounds mask (counter (tagBytes tag) i) ⌝ }
+    ensures { λ r. ⌜ r ≡ encipherOf rounds mask (counter (tagBytes tag) i) ⌝ }
 {
     let t0 = tag[0];
     let t1 = tag[1];

@@ -6,7 +6,7 @@ use mem::cipher::encipher;
 use words::block::xor;
 ghost use mathlib.Core.Path.{_≡_};
 ghost use Rattle.words.specs.Block.{xorBlock};
-ghost use Rattle.mem.specs.Mem.{encipher as enciphered};
+ghost use Rattle.mem.specs.Mem.{E};
 ghost use Rattle.blockplan.specs.Plan.{xorOver};
 ghost use Rattle.blockplan.specs.Stepped.{stepped};
 ghost use Rattle.mro.specs.Mro.{blocks, mroSum, lengths};
@@ -27,7 +27,7 @@ fn absorb_all(s: &[u8], first: [u64; 16], rounds: u32) -> [u64; 16]
 
 // The block whose first 32 bytes are the tag.
 pub fn tag_block(start: [u64; 16], rounds: u32, header: &[u8], message: &[u8]) -> [u64; 16]
-    ensures { λ r. ⌜ r ≡ enciphered rounds start 0 2 0 (xorBlock (mroSum rounds start (now (header .entry)) (now (message .entry))) (lengths (now (header .entry)) (now (message .entry)))) ⌝ }
+    ensures { λ r. ⌜ r ≡ E rounds start 0 2 0 (xorBlock (mroSum rounds start (now (header .entry)) (now (message .entry))) (lengths (now (header .entry)) (now (message .entry)))) ⌝ }
 {
     let once = beta(start);
     let sum = xor(

@@ -10,8 +10,8 @@ use Rattle.words.specs.Sequence.{cat, tab, times}
 use Rattle.words.specs.Block.{Block, Bytes, bytesOf, xorBlock, xorBytes, zeroBlock}
 use Rattle.words.proofs.Lists.{cat-ext, fronted}
 use Rattle.masks.specs.Steps.{alpha, beta, gamma}
-use Rattle.mem.specs.Mem.{maskAt, under, encipher, decipher}
-use Rattle.mem.proofs.Laws.{mask-alpha, decipher-block}
+use Rattle.mem.specs.Mem.{maskAt, encipher, E, D}
+use Rattle.mem.proofs.Laws.{mask-alpha, D-block}
 use Rattle.blockplan.specs.Plan.{whole, left, hasLeft, blockAt, xorOver, xorIf, ciphered, tagBytes}
 use Rattle.blockplan.proofs.Plans.{xorOver-ext}
 use Rattle.blockplan.proofs.Ciphered.{whole-le, length-left, length-ciphered, whole-ciphered, left-ciphered, hasLeft-ciphered, blockAt-ciphered, block-blockAt}
@@ -26,7 +26,7 @@ module _ (rounds : ℕ) (start s : List ℕ) (l : Block start) where
   -- masks stepped on from gamma of the start are those of E(i, 0, 1) and D(i, 0, 1)
   transformed-is : (opening : Bool) (i : ℕ) → transformedAt opening rounds (gamma start) s i
       ≡ cond opening (openAt rounds start i (blockAt s i)) (sealAt rounds start i (blockAt s i))
-  unfolding transformedAt transformed openAt sealAt encipher decipher maskAt times
+  unfolding transformedAt transformed openAt sealAt E D maskAt times
   transformed-is opening i = ap (λ (m : List ℕ). transformed opening rounds m (blockAt s i)) (sym (mask-alpha start l i 0 1))
 
   -- what the pass writes: the whole blocks and the leftover
@@ -45,17 +45,17 @@ module _ (rounds : ℕ) (start s : List ℕ) (l : Block start) where
 
   -- E of the zero block under the leftover's mask
   abbrev pub leftStream : List ℕ
-  leftStream = under rounds (beta (times alpha (whole s) (gamma start))) zeroBlock
+  leftStream = encipher rounds (beta (times alpha (whole s) (gamma start))) zeroBlock
 
   stream-is : leftStream ≡ oppStream rounds start (whole s)
-  unfolding oppStream encipher
-  stream-is = ap (λ (m : List ℕ). under rounds m zeroBlock) mask-left
+  unfolding oppStream E
+  stream-is = ap (λ (m : List ℕ). encipher rounds m zeroBlock) mask-left
 
   module _ (h : Bytes s) where
     opened-at : (i : ℕ) → i < whole s → blockAt (oppPlain rounds start s) i ≡ plainAt true rounds (gamma start) s i
     unfolding oppPlain plainAt openAt
     opened-at i p =
-        blockAt-ciphered (openAt rounds start) (oppStream rounds start) s i p (decipher-block rounds start (blockAt s i) l (block-blockAt s i h) i 0 1)
+        blockAt-ciphered (openAt rounds start) (oppStream rounds start) s i p (D-block rounds start (blockAt s i) l (block-blockAt s i h) i 0 1)
         ∙ sym (transformed-is true i)
 
     -- Check over the message, from what the pass had in hand
@@ -130,13 +130,13 @@ module _ (rounds : ℕ) (start s : List ℕ) (l : Block start) where
 
     -- the tag, from a block made of the sum, the message's last mask and the check
     pub tag-is : (opening : Bool) (header block mask check : List ℕ) → mask ≡ maskAt start (whole s) (cond (hasLeft s) 1 0) 1
-        → check ≡ oppCheck (plain opening rounds start s) → block ≡ xorBlock (oppSum rounds start header) (under rounds (beta (beta mask)) check)
+        → check ≡ oppCheck (plain opening rounds start s) → block ≡ xorBlock (oppSum rounds start header) (encipher rounds (beta (beta mask)) check)
         → tagBytes block ≡ oppTag rounds start header (plain opening rounds start s)
-    unfolding oppTag encipher
+    unfolding oppTag E
     tag-is opening header block mask check m c e =
         let at : beta (beta mask) ≡ maskAt start (whole (plain opening rounds start s)) (cond (hasLeft (plain opening rounds start s)) 3 2) 1 =
         rw (m, whole-plain opening, hasLeft-plain opening) (two-on (hasLeft s)) in
-        ap tagBytes (e ∙ ap₂ (λ (n b : List ℕ). xorBlock (oppSum rounds start header) (under rounds n b)) at c)
+        ap tagBytes (e ∙ ap₂ (λ (n b : List ℕ). xorBlock (oppSum rounds start header) (encipher rounds n b)) at c)
 
 pub length-passed : (opening : Bool) (rounds : ℕ) (start s : List ℕ) → length (passed opening rounds start s) ≡ length s
 unfolding passed oppPlain oppCipher

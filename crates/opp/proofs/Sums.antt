@@ -9,7 +9,7 @@ use borrow.Author.Tests.{lt-ltb, le-ltb}
 use Rattle.words.specs.Sequence.{times}
 use Rattle.words.specs.Block.{xorBlock}
 use Rattle.masks.specs.Steps.{alpha, beta}
-use Rattle.mem.specs.Mem.{maskAt, under, encipher}
+use Rattle.mem.specs.Mem.{maskAt, encipher, E}
 use Rattle.blockplan.specs.Plan.{whole, left, hasLeft, xorOver, xorIf}
 use Rattle.blockplan.specs.Stepped.{stepped}
 use Rattle.blockplan.proofs.Plans.{xorOver-ext}
@@ -38,7 +38,7 @@ module _ (s : List ℕ) where
 
 module _ (rounds : ℕ) (start header : List ℕ) where
   blocks : xorOver (headerAt rounds start header) (whole header) ≡ xorOver (stepped rounds start header) (whole header)
-  unfolding headerAt stepped encipher maskAt times
+  unfolding headerAt stepped E maskAt times
   blocks = xorOver-ext (headerAt rounds start header) (stepped rounds start header) (whole header) (λ i p. refl)
 
   pub sum-none : 128 * whole header ≡ length header → oppSum rounds start header ≡ xorOver (stepped rounds start header) (whole header)
@@ -46,6 +46,6 @@ module _ (rounds : ℕ) (start header : List ℕ) where
   sum-none e = rw (no-left header e, blocks)
 
   pub sum-some : (128 * whole header ≡ length header → ⊥) → oppSum rounds start header
-      ≡ xorBlock (xorOver (stepped rounds start header) (whole header)) (under rounds (beta (times alpha (whole header) start)) (padded (left header)))
-  unfolding oppSum xorIf encipher maskAt times
+      ≡ xorBlock (xorOver (stepped rounds start header) (whole header)) (encipher rounds (beta (times alpha (whole header) start)) (padded (left header)))
+  unfolding oppSum xorIf E maskAt times
   sum-some q = rw (some-left header q, blocks)

@@ -3,7 +3,7 @@ use mathlib.Core.Bool.{cond}
 use mathlib.Core.List.{List, [], _∷_, _++_}
 use Prim.Native.Nat.{ℕ}
 use Rattle.words.specs.Block.{blockOf, xorBlock, zeroBlock}
-use Rattle.mem.specs.Mem.{encipher, decipher}
+use Rattle.mem.specs.Mem.{E, D}
 use Rattle.blockplan.specs.Plan.{whole, left, hasLeft, blockAt, xorOver, xorIf, ciphered, tagBytes}
 
 -- a leftover padded with byte 0x01 and then zeros
@@ -12,13 +12,13 @@ padded s = blockOf (s ++ (1 ∷ []))
 
 -- block i of the header, E(i, 0, 0) of it
 unfoldable pub headerAt : ℕ → List ℕ → List ℕ → ℕ → List ℕ
-headerAt rounds start header i = encipher rounds start i 0 0 (blockAt header i)
+headerAt rounds start header i = E rounds start i 0 0 (blockAt header i)
 
 -- Sum: xor of E(i, 0, 0) over the whole header blocks, and of E(h, 1, 0) of the leftover, padded
 unfoldable pub oppSum : ℕ → List ℕ → List ℕ → List ℕ
 oppSum rounds start header =
     xorIf (hasLeft header) (xorOver (headerAt rounds start header) (whole header))
-    (encipher rounds start (whole header) 1 0 (padded (left header)))
+    (E rounds start (whole header) 1 0 (padded (left header)))
 
 -- Check: xor of the whole message blocks and the leftover padded in the same way
 unfoldable pub oppCheck : List ℕ → List ℕ
@@ -29,19 +29,19 @@ unfoldable pub oppTag : ℕ → List ℕ → List ℕ → List ℕ → List ℕ
 oppTag rounds start header message =
     tagBytes
     (xorBlock (oppSum rounds start header)
-    (encipher rounds start (whole message) (cond (hasLeft message) 3 2) 1 (oppCheck message)))
+    (E rounds start (whole message) (cond (hasLeft message) 3 2) 1 (oppCheck message)))
 
 -- whole message blocks become E(i, 0, 1)
 unfoldable pub sealAt : ℕ → List ℕ → ℕ → List ℕ → List ℕ
-sealAt rounds start i block = encipher rounds start i 0 1 block
+sealAt rounds start i block = E rounds start i 0 1 block
 
 -- opening runs D on whole blocks
 unfoldable pub openAt : ℕ → List ℕ → ℕ → List ℕ → List ℕ
-openAt rounds start i block = decipher rounds start i 0 1 block
+openAt rounds start i block = D rounds start i 0 1 block
 
 -- a leftover is xored with the first bytes of E(m, 1, 1) of the zero block
 unfoldable pub oppStream : ℕ → List ℕ → ℕ → List ℕ
-oppStream rounds start m = encipher rounds start m 1 1 zeroBlock
+oppStream rounds start m = E rounds start m 1 1 zeroBlock
 
 -- the ciphertext, as long as the message
 unfoldable pub oppCipher : ℕ → List ℕ → List ℕ → List ℕ

@@ -15,7 +15,7 @@ ghost use Prim.Native.Nat.{_<_, _≤_};
 ghost use lib.ListN.{length, drop};
 ghost use Rattle.words.specs.Block.{bytesOf, xorBlock, xorBytes, zeroBlock};
 ghost use Rattle.masks.specs.Steps.{beta as betaOf};
-ghost use Rattle.mem.specs.Mem.{maskAt, under};
+ghost use Rattle.mem.specs.Mem.{maskAt, encipher as encipherOf};
 ghost use Rattle.blockplan.specs.Plan.{whole, hasLeft};
 ghost use Rattle.opp.specs.Opp.{padded as paddedOf, oppCheck};
 ghost use Rattle.opp.specs.Pass.{passed, plain};
@@ -35,8 +35,8 @@ fn padded_plain(opening: bool, made: &[u8], given: &[u8]) -> [u64; 16]
 // The leftover, under a mask a beta step on from the one after the whole blocks.
 fn pass_leftover(blocks: Passed, rounds: u32, s: &[u8], opening: bool, out: &mut [u8]) -> Passed
     requires { ⌜ (length (now s) < 128) × (length (now s) ≤ length (now out)) ⌝ }
-    ensures { λ _. ⌜ now (out .exit) ≡ xorBytes (now (s .entry)) (bytesOf (under rounds (betaOf (blocks .mask)) zeroBlock)) ++ drop (length (now (s .entry))) (now (out .entry)) ⌝ }
-    ensures { λ r. ⌜ (r .check ≡ xorBlock (blocks .check) (paddedOf (cond opening (xorBytes (now (s .entry)) (bytesOf (under rounds (betaOf (blocks .mask)) zeroBlock))) (now (s .entry))))) × (r .mask ≡ betaOf (blocks .mask)) ⌝ }
+    ensures { λ _. ⌜ now (out .exit) ≡ xorBytes (now (s .entry)) (bytesOf (encipherOf rounds (betaOf (blocks .mask)) zeroBlock)) ++ drop (length (now (s .entry))) (now (out .entry)) ⌝ }
+    ensures { λ r. ⌜ (r .check ≡ xorBlock (blocks .check) (paddedOf (cond opening (xorBytes (now (s .entry)) (bytesOf (encipherOf rounds (betaOf (blocks .mask)) zeroBlock))) (now (s .entry))))) × (r .mask ≡ betaOf (blocks .mask)) ⌝ }
 {
     let before = blocks.mask;
     let mask = beta(before);

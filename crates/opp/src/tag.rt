@@ -8,7 +8,7 @@ use words::block::xor;
 ghost use mathlib.Core.Path.{_≡_};
 ghost use Rattle.words.specs.Block.{xorBlock};
 ghost use Rattle.masks.specs.Steps.{beta as betaOf};
-ghost use Rattle.mem.specs.Mem.{under};
+ghost use Rattle.mem.specs.Mem.{encipher as encipherOf};
 ghost use Rattle.opp.specs.Opp.{oppSum};
 
 // Sum: the header's whole blocks, and its leftover under a mask a beta step on.
@@ -28,7 +28,7 @@ fn header_sum(start: [u64; 16], rounds: u32, header: &[u8]) -> [u64; 16]
 
 // Sum, xor E of the check under a mask two beta steps on from the one that the pass ends with.
 pub fn tag_block(start: [u64; 16], rounds: u32, header: &[u8], passed: Passed) -> [u64; 16]
-    ensures { λ r. ⌜ r ≡ xorBlock (oppSum rounds start (now (header .entry))) (under rounds (betaOf (betaOf (passed .mask))) (passed .check)) ⌝ }
+    ensures { λ r. ⌜ r ≡ xorBlock (oppSum rounds start (now (header .entry))) (encipherOf rounds (betaOf (betaOf (passed .mask))) (passed .check)) ⌝ }
 {
     let check = passed.check;
     let mask = passed.mask;

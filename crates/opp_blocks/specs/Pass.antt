@@ -5,12 +5,12 @@ use Prim.Native.Nat.{ℕ}
 use Rattle.words.specs.Sequence.{times}
 use Rattle.words.specs.Block.{bytesOf}
 use Rattle.masks.specs.Steps.{alpha}
-use Rattle.mem.specs.Mem.{under, unUnder}
+use Rattle.mem.specs.Mem.{encipher, decipher}
 use Rattle.blockplan.specs.Plan.{blockAt}
 
 -- E of a block, given its mask; D where a parcel is opened
 unfoldable pub transformed : Bool → ℕ → List ℕ → List ℕ → List ℕ
-transformed opening rounds mask block = cond opening (unUnder rounds mask block) (under rounds mask block)
+transformed opening rounds mask block = cond opening (decipher rounds mask block) (encipher rounds mask block)
 
 -- what whole block i becomes, under a mask that is i alpha steps on from the first
 unfoldable pub transformedAt : Bool → ℕ → List ℕ → List ℕ → ℕ → List ℕ

@@ -14,15 +14,15 @@ ghost use lib.ListN.{length, drop};
 ghost use Rattle.words.specs.Sequence.{cat, times};
 ghost use Rattle.words.specs.Block.{blockOf, bytesOf, xorBlock};
 ghost use Rattle.masks.specs.Steps.{alpha as alphaOf};
-ghost use Rattle.mem.specs.Mem.{unUnder};
+ghost use Rattle.mem.specs.Mem.{decipher as decipherOf};
 ghost use Rattle.blockplan.specs.Plan.{whole, xorOver};
 ghost use Rattle.opp_blocks.specs.Pass.{bytesAt, plainAt};
 
 // One block opened: D of it to the front of the output, and into the check.
 fn open_block(check: [u64; 16], mask: [u64; 16], rounds: u32, s: &[u8], out: &mut [u8]) -> [u64; 16]
     requires { ⌜ (128 ≤ length (now s)) × (128 ≤ length (now out)) ⌝ }
-    ensures { λ _. ⌜ now (out .exit) ≡ bytesOf (unUnder rounds mask (blockOf (now (s .entry)))) ++ drop 128 (now (out .entry)) ⌝ }
-    ensures { λ r. ⌜ r ≡ xorBlock check (unUnder rounds mask (blockOf (now (s .entry)))) ⌝ }
+    ensures { λ _. ⌜ now (out .exit) ≡ bytesOf (decipherOf rounds mask (blockOf (now (s .entry)))) ++ drop 128 (now (out .entry)) ⌝ }
+    ensures { λ r. ⌜ r ≡ xorBlock check (decipherOf rounds mask (blockOf (now (s .entry)))) ⌝ }
 {
     let made = decipher(load(s), mask, rounds);
     store(made, out);

@@ -14,14 +14,14 @@ ghost use lib.ListN.{length, drop};
 ghost use Rattle.words.specs.Sequence.{cat, times};
 ghost use Rattle.words.specs.Block.{blockOf, bytesOf, xorBlock};
 ghost use Rattle.masks.specs.Steps.{alpha as alphaOf};
-ghost use Rattle.mem.specs.Mem.{under};
+ghost use Rattle.mem.specs.Mem.{encipher as encipherOf};
 ghost use Rattle.blockplan.specs.Plan.{whole, xorOver};
 ghost use Rattle.opp_blocks.specs.Pass.{bytesAt, plainAt};
 
 // One block sealed: E of it to the front of the output, and the block itself into the check.
 fn seal_block(check: [u64; 16], mask: [u64; 16], rounds: u32, s: &[u8], out: &mut [u8]) -> [u64; 16]
     requires { ⌜ (128 ≤ length (now s)) × (128 ≤ length (now out)) ⌝ }
-    ensures { λ _. ⌜ now (out .exit) ≡ bytesOf (under rounds mask (blockOf (now (s .entry)))) ++ drop 128 (now (out .entry)) ⌝ }
+    ensures { λ _. ⌜ now (out .exit) ≡ bytesOf (encipherOf rounds mask (blockOf (now (s .entry)))) ++ drop 128 (now (out .entry)) ⌝ }
     ensures { λ r. ⌜ r ≡ xorBlock check (blockOf (now (s .entry))) ⌝ }
 {
     let given = load(s);
@@ -41,7 +41,7 @@ fn seal_pair(
     out: &mut [u8],
 ) -> [u64; 16]
     requires { ⌜ (256 ≤ length (now s)) × (256 ≤ length (now out)) ⌝ }
-    ensures { λ _. ⌜ now (out .exit) ≡ bytesOf (under rounds mask (blockOf (now (s .entry)))) ++ (bytesOf (under rounds next (blockOf (drop 128 (now (s .entry))))) ++ drop 256 (now (out .entry))) ⌝ }
+    ensures { λ _. ⌜ now (out .exit) ≡ bytesOf (encipherOf rounds mask (blockOf (now (s .entry)))) ++ (bytesOf (encipherOf rounds next (blockOf (drop 128 (now (s .entry))))) ++ drop 256 (now (out .entry))) ⌝ }
     ensures { λ r. ⌜ r ≡ xorBlock (xorBlock check (blockOf (now (s .entry)))) (blockOf (drop 128 (now (s .entry)))) ⌝ }
 {
     store(encipher(load(s), mask, rounds), out);

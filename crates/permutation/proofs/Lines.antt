@@ -8,7 +8,7 @@ use lib.Bits.{bitXor, xor-lt}
 use Rattle.words.specs.Word.{addW, subW, rotR, rotL}
 use Rattle.words.proofs.Xor.{xor-cancel-r}
 use Rattle.words.proofs.Words.{rotR-lt, rotR-back}
-use Rattle.permutation.specs.Permutation.{Quad, half, unHalf, gOf, unGOf}
+use Rattle.permutation.specs.Permutation.{Quad, half, backHalf, gOf, backGOf}
 use Rattle.permutation.specs.Undo.{Undo}
 use Rattle.permutation.proofs.Maps.{undo-then}
 
@@ -42,17 +42,17 @@ module _ (n : ℕ) (n-lt : n < 64) where
   turn-lt : (x y : ℕ) → x < 2 ^ 64 → y < 2 ^ 64 → rotR n (bitXor x y) < 2 ^ 64
   turn-lt x y hx hy = rotR-lt n (64 - n) (omega arith) (bitXor x y) (xor-lt 64 x y hx hy)
 
-  unTurn-lt : (x y : ℕ) → x < 2 ^ 64 → y < 2 ^ 64 → bitXor (rotL n x) y < 2 ^ 64
+  backTurn-lt : (x y : ℕ) → x < 2 ^ 64 → y < 2 ^ 64 → bitXor (rotL n x) y < 2 ^ 64
   unfolding rotL
-  unTurn-lt x y hx hy = xor-lt 64 (rotR (64 - n) x) y (rotR-lt (64 - n) n (omega arith) x hx) hy
+  backTurn-lt x y hx hy = xor-lt 64 (rotR (64 - n) x) y (rotR-lt (64 - n) n (omega arith) x hx) hy
 
-  unTurn-turn : (x y : ℕ) → x < 2 ^ 64 → y < 2 ^ 64 → bitXor (rotL n (rotR n (bitXor x y))) y ≡ x
+  backTurn-turn : (x y : ℕ) → x < 2 ^ 64 → y < 2 ^ 64 → bitXor (rotL n (rotR n (bitXor x y))) y ≡ x
   unfolding rotL
-  unTurn-turn x y hx hy = rw (rotR-back n (64 - n) (omega arith) (bitXor x y) (xor-lt 64 x y hx hy)) (xor-cancel-r x y)
+  backTurn-turn x y hx hy = rw (rotR-back n (64 - n) (omega arith) (bitXor x y) (xor-lt 64 x y hx hy)) (xor-cancel-r x y)
 
-  turn-unTurn : (x y : ℕ) → x < 2 ^ 64 → y < 2 ^ 64 → rotR n (bitXor (bitXor (rotL n x) y) y) ≡ x
+  turn-backTurn : (x y : ℕ) → x < 2 ^ 64 → y < 2 ^ 64 → rotR n (bitXor (bitXor (rotL n x) y) y) ≡ x
   unfolding rotL
-  turn-unTurn x y hx hy = rw (xor-cancel-r (rotR (64 - n) x) y) (rotR-back (64 - n) n (omega arith) x hx)
+  turn-backTurn x y hx hy = rw (xor-cancel-r (rotR (64 - n) x) y) (rotR-back (64 - n) n (omega arith) x hx)
 
 -- ---- four lines, and G
 
@@ -69,45 +69,45 @@ module _ (m n : ℕ) (m-lt : m < 64) (n-lt : n < 64) where
       let hc = addW-lt (q .c) (rotR m (bitXor (q .d) (addW (q .a) (q .b)))) in
       record { a = ha; b = turn-lt n n-lt (q .b) _ (w .b) hc; c = hc; d = hd }
 
-  unHalf-words : (q : Quad) → Words q → Words (unHalf m n q)
-  unfolding unHalf
-  unHalf-words q w = record {
+  backHalf-words : (q : Quad) → Words q → Words (backHalf m n q)
+  unfolding backHalf
+  backHalf-words q w = record {
     a = subW-lt _ _;
-    b = unTurn-lt n n-lt (q .b) (q .c) (w .b) (w .c);
+    b = backTurn-lt n n-lt (q .b) (q .c) (w .b) (w .c);
     c = subW-lt _ _;
-    d = unTurn-lt m m-lt (q .d) (q .a) (w .d) (w .a);
+    d = backTurn-lt m m-lt (q .d) (q .a) (w .d) (w .a);
   }
 
-  unHalf-half : (q : Quad) → Words q → unHalf m n (half m n q) ≡ q
-  unfolding half unHalf
-  unHalf-half q w =
+  backHalf-half : (q : Quad) → Words q → backHalf m n (half m n q) ≡ q
+  unfolding half backHalf
+  backHalf-half q w =
       let a = addW (q .a) (q .b) in
       let d = rotR m (bitXor (q .d) a) in
       let c = addW (q .c) d in
-      let eb = unTurn-turn n n-lt (q .b) c (w .b) (addW-lt (q .c) d) in
-      quad (unHalf m n (half m n q)) q
+      let eb = backTurn-turn n n-lt (q .b) c (w .b) (addW-lt (q .c) d) in
+      quad (backHalf m n (half m n q)) q
       (ap (subW a) eb ∙ subW-addW (q .a) (q .b) (w .a) (w .b))
       eb
       (subW-addW (q .c) d (w .c) (turn-lt m m-lt (q .d) a (w .d) (addW-lt (q .a) (q .b))))
-      (unTurn-turn m m-lt (q .d) a (w .d) (addW-lt (q .a) (q .b)))
+      (backTurn-turn m m-lt (q .d) a (w .d) (addW-lt (q .a) (q .b)))
 
-  half-unHalf : (q : Quad) → Words q → half m n (unHalf m n q) ≡ q
-  unfolding half unHalf
-  half-unHalf q w =
+  half-backHalf : (q : Quad) → Words q → half m n (backHalf m n q) ≡ q
+  unfolding half backHalf
+  half-backHalf q w =
       let b = bitXor (rotL n (q .b)) (q .c) in
       let d = bitXor (rotL m (q .d)) (q .a) in
-      let ea = addW-subW (q .a) b (w .a) (unTurn-lt n n-lt (q .b) (q .c) (w .b) (w .c)) in
-      let ed = ap (λ (x : ℕ). rotR m (bitXor d x)) ea ∙ turn-unTurn m m-lt (q .d) (q .a) (w .d) (w .a) in
+      let ea = addW-subW (q .a) b (w .a) (backTurn-lt n n-lt (q .b) (q .c) (w .b) (w .c)) in
+      let ed = ap (λ (x : ℕ). rotR m (bitXor d x)) ea ∙ turn-backTurn m m-lt (q .d) (q .a) (w .d) (w .a) in
       let ec = ap (addW (subW (q .c) (q .d))) ed ∙ addW-subW (q .c) (q .d) (w .c) (w .d) in
-      quad (half m n (unHalf m n q)) q
+      quad (half m n (backHalf m n q)) q
       ea
-      (ap (λ (x : ℕ). rotR n (bitXor b x)) ec ∙ turn-unTurn n n-lt (q .b) (q .c) (w .b) (w .c))
+      (ap (λ (x : ℕ). rotR n (bitXor b x)) ec ∙ turn-backTurn n n-lt (q .b) (q .c) (w .b) (w .c))
       ec
       ed
 
-  pub half-undo : Undo Words (half m n) (unHalf m n)
-  half-undo = record { forth-keeps = half-words; back-keeps = unHalf-words; back-forth = unHalf-half; forth-back = half-unHalf }
+  pub half-undo : Undo Words (half m n) (backHalf m n)
+  half-undo = record { forth-keeps = half-words; back-keeps = backHalf-words; back-forth = backHalf-half; forth-back = half-backHalf }
 
-pub g-undo : Undo Words gOf unGOf
-unfolding gOf unGOf
+pub g-undo : Undo Words gOf backGOf
+unfolding gOf backGOf
 g-undo = undo-then (half-undo 32 24 (lit< tt) (lit< tt)) (half-undo 16 63 (lit< tt) (lit< tt))

@@ -3,7 +3,7 @@ use mathlib.Core.Path.{_≡_}
 use mathlib.Core.List.{List, [], _∷_}
 use Prim.Native.Nat.{ℕ}
 use Rattle.words.specs.Block.{Block}
-use Rattle.permutation.specs.Permutation.{gAt, unGAt, over, unOver, groups, round, unRound, perm, unPerm}
+use Rattle.permutation.specs.Permutation.{gAt, backGAt, over, backOver, groups, round, backRound, perm, backPerm}
 use Rattle.permutation.specs.Undo.{Undo, BackUndoes}
 use Rattle.permutation.proofs.Maps.{undo-same, undo-then, undo-times}
 use Rattle.permutation.proofs.Lines.{g-undo}
@@ -11,24 +11,24 @@ use Rattle.permutation.proofs.Places.{Row, undo-at}
 use Rattle.permutation.proofs.Groups.{Rows, groups-rows}
 
 -- G over one group
-pub gAt-undo : (row : List ℕ) → Row row → Undo Block (gAt row) (unGAt row)
-unfolding gAt unGAt
+pub gAt-undo : (row : List ℕ) → Row row → Undo Block (gAt row) (backGAt row)
+unfolding gAt backGAt
 gAt-undo row r = undo-at g-undo row r
 
 -- G over groups in turn
-pub over-undo : (rows : List (List ℕ)) → Rows rows → Undo Block (over rows) (unOver rows)
-unfolding over unOver
+pub over-undo : (rows : List (List ℕ)) → Rows rows → Undo Block (over rows) (backOver rows)
+unfolding over backOver
 over-undo [] rs = undo-same
 over-undo (row ∷ rows) rs = undo-then (gAt-undo row (rs .0)) (over-undo rows (rs .1))
 
 -- a round
-pub round-undo : Undo Block round unRound
-unfolding round unRound
+pub round-undo : Undo Block round backRound
+unfolding round backRound
 round-undo = over-undo groups groups-rows
 
 -- P of n rounds, for every n
-pub perm-undo : (n : ℕ) → Undo Block (perm n) (unPerm n)
-unfolding perm unPerm
+pub perm-undo : (n : ℕ) → Undo Block (perm n) (backPerm n)
+unfolding perm backPerm
 perm-undo n = undo-times round-undo n
 
 -- ---- the same, one fact each
@@ -36,14 +36,14 @@ perm-undo n = undo-times round-undo n
 pub perm-block : (n : ℕ) (s : List ℕ) → Block s → Block (perm n s)
 perm-block n = perm-undo n .forth-keeps
 
-pub unPerm-block : (n : ℕ) (s : List ℕ) → Block s → Block (unPerm n s)
-unPerm-block n = perm-undo n .back-keeps
+pub backPerm-block : (n : ℕ) (s : List ℕ) → Block s → Block (backPerm n s)
+backPerm-block n = perm-undo n .back-keeps
 
-pub unPerm-perm : (n : ℕ) (s : List ℕ) → Block s → unPerm n (perm n s) ≡ s
-unPerm-perm n = perm-undo n .back-forth
+pub backPerm-perm : (n : ℕ) (s : List ℕ) → Block s → backPerm n (perm n s) ≡ s
+backPerm-perm n = perm-undo n .back-forth
 
-pub perm-unPerm : (n : ℕ) (s : List ℕ) → Block s → perm n (unPerm n s) ≡ s
-perm-unPerm n = perm-undo n .forth-back
+pub perm-backPerm : (n : ℕ) (s : List ℕ) → Block s → perm n (backPerm n s) ≡ s
+perm-backPerm n = perm-undo n .forth-back
 
 pub back-undoes : BackUndoes
 back-undoes = record { undone = perm-undo }

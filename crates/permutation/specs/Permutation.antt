@@ -27,8 +27,8 @@ unfoldable pub gOf : Quad → Quad
 gOf q = half 16 63 (half 32 24 q)
 
 -- the four lines undone, the last one first
-unfoldable pub unHalf : ℕ → ℕ → Quad → Quad
-unHalf m n q =
+unfoldable pub backHalf : ℕ → ℕ → Quad → Quad
+backHalf m n q =
     let b = bitXor (rotL n (q .b)) (q .c) in
     let c = subW (q .c) (q .d) in
     let d = bitXor (rotL m (q .d)) (q .a) in
@@ -36,8 +36,8 @@ unHalf m n q =
     record { a = a; b = b; c = c; d = d }
 
 -- the step G undone
-unfoldable pub unGOf : Quad → Quad
-unGOf q = unHalf 32 24 (unHalf 16 63 q)
+unfoldable pub backGOf : Quad → Quad
+backGOf q = backHalf 32 24 (backHalf 16 63 q)
 
 -- the four words of a block whose word numbers are in the row
 unfoldable pub pick : List ℕ → List ℕ → Quad
@@ -62,8 +62,8 @@ unfoldable pub gAt : List ℕ → List ℕ → List ℕ
 gAt row s = stepAt gOf row s
 
 -- G over one group, undone
-unfoldable pub unGAt : List ℕ → List ℕ → List ℕ
-unGAt row s = stepAt unGOf row s
+unfoldable pub backGAt : List ℕ → List ℕ → List ℕ
+backGAt row s = stepAt backGOf row s
 
 -- G over each group in turn
 unfoldable pub over : List (List ℕ) → List ℕ → List ℕ
@@ -71,9 +71,9 @@ over [] s = s
 over (row ∷ rows) s = over rows (gAt row s)
 
 -- the same undone, the last group first
-unfoldable pub unOver : List (List ℕ) → List ℕ → List ℕ
-unOver [] s = s
-unOver (row ∷ rows) s = unGAt row (unOver rows s)
+unfoldable pub backOver : List (List ℕ) → List ℕ → List ℕ
+backOver [] s = s
+backOver (row ∷ rows) s = backGAt row (backOver rows s)
 
 -- the eight groups of word numbers
 unfoldable pub groups : List (List ℕ)
@@ -93,13 +93,13 @@ unfoldable pub round : List ℕ → List ℕ
 round s = over groups s
 
 -- a round undone
-unfoldable pub unRound : List ℕ → List ℕ
-unRound s = unOver groups s
+unfoldable pub backRound : List ℕ → List ℕ
+backRound s = backOver groups s
 
 -- P is n rounds
 unfoldable pub perm : ℕ → List ℕ → List ℕ
 perm n s = times round n s
 
 -- the back permutation undoes P
-unfoldable pub unPerm : ℕ → List ℕ → List ℕ
-unPerm n s = times unRound n s
+unfoldable pub backPerm : ℕ → List ℕ → List ℕ
+backPerm n s = times backRound n s

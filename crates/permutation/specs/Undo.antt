@@ -2,7 +2,7 @@
 use mathlib.Core.Path.{_≡_}
 use Prim.Native.Nat.{ℕ}
 use Rattle.words.specs.Block.{Block}
-use Rattle.permutation.specs.Permutation.{perm, unPerm}
+use Rattle.permutation.specs.Permutation.{perm, backPerm}
 
 -- among the values that On tells of, as the blocks, forth and back stay, and each undoes the other
 pub record Undo {A : Type 0} (On : A → Type 0) (forth back : A → A) : Type 0 where
@@ -13,4 +13,4 @@ pub record Undo {A : Type 0} (On : A → Type 0) (forth back : A → A) : Type 0
 
 -- back after P and P after back give the same block, for every block and every count of rounds; proved as back-undoes in proofs/Undone
 pub record BackUndoes : Type 0 where
-  pub undone : (n : ℕ) → Undo Block (perm n) (unPerm n)
+  pub undone : (n : ℕ) → Undo Block (perm n) (backPerm n)

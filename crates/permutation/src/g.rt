@@ -5,7 +5,7 @@ ghost use mathlib.Core.Path.{_≡_};
 ghost use mathlib.Core.List.{[], _∷_};
 ghost use Prim.Native.Nat.{_<_};
 ghost use Rattle.words.specs.Word.{addW, subW};
-ghost use Rattle.permutation.specs.Permutation.{gAt, unGAt};
+ghost use Rattle.permutation.specs.Permutation.{gAt, backGAt};
 
 // The sum, which wraps on purpose.
 fn add(x: u64, y: u64) -> u64
@@ -47,9 +47,9 @@ pub fn g(s: [u64; 16], i: usize, j: usize, k: usize, l: usize) -> [u64; 16]
 }
 
 // G undone on words i, j, k, l: the eight lines undone, the last one first.
-pub fn ung(s: [u64; 16], i: usize, j: usize, k: usize, l: usize) -> [u64; 16]
+pub fn back_g(s: [u64; 16], i: usize, j: usize, k: usize, l: usize) -> [u64; 16]
     requires { ⌜ (i < 16) × ((j < 16) × ((k < 16) × (l < 16))) ⌝ }
-    ensures { λ r. ⌜ r ≡ unGAt (i ∷ j ∷ k ∷ l ∷ []) s ⌝ }
+    ensures { λ r. ⌜ r ≡ backGAt (i ∷ j ∷ k ∷ l ∷ []) s ⌝ }
 {
     let mut a = s[i];
     let mut b = s[j];

@@ -1,8 +1,8 @@
 // P with a count of rounds, and the back permutation.
 use crate::round::round;
-use crate::round::unround;
+use crate::round::back_round;
 ghost use mathlib.Core.Path.{_≡_};
-ghost use Rattle.permutation.specs.Permutation.{perm, unPerm};
+ghost use Rattle.permutation.specs.Permutation.{perm, backPerm};
 
 // P of a block, for every count of rounds.
 pub fn permute(s: [u64; 16], rounds: u32) -> [u64; 16]
@@ -19,13 +19,13 @@ pub fn permute(s: [u64; 16], rounds: u32) -> [u64; 16]
 }
 
 // P of a block undone, for every count of rounds.
-pub fn unpermute(s: [u64; 16], rounds: u32) -> [u64; 16]
-    ensures { λ r. ⌜ r ≡ unPerm rounds s ⌝ }
+pub fn back_permute(s: [u64; 16], rounds: u32) -> [u64; 16]
+    ensures { λ r. ⌜ r ≡ backPerm rounds s ⌝ }
 {
     let mut r = s;
     let mut undone: u32 = 0;
     while undone < rounds {
-        let next = unround(r);
+        let next = back_round(r);
         r = next;
         undone += 1;
     }

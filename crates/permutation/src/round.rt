@@ -1,11 +1,11 @@
 // A round, and a round undone.
 use crate::g::g;
-use crate::g::ung;
+use crate::g::back_g;
 ghost use mathlib.Core.Path.{_≡_};
 ghost use mathlib.Core.List.{[]};
 ghost use Prim.Native.Nat.{_<_};
 ghost use lib.ListN.{getD};
-ghost use Rattle.permutation.specs.Permutation.{groups, gAt, unGAt, round as roundOf, unRound};
+ghost use Rattle.permutation.specs.Permutation.{groups, gAt, backGAt, round as roundOf, backRound};
 
 // The eight groups of word numbers: four columns, four diagonals.
 const GROUPS: [[usize; 4]; 8] = [
@@ -29,12 +29,12 @@ fn step(s: [u64; 16], k: usize) -> [u64; 16]
 }
 
 // G over group k, undone.
-fn unstep(s: [u64; 16], k: usize) -> [u64; 16]
+fn back_step(s: [u64; 16], k: usize) -> [u64; 16]
     requires { ⌜ k < 8 ⌝ }
-    ensures { λ r. ⌜ r ≡ unGAt (getD groups k []) s ⌝ }
+    ensures { λ r. ⌜ r ≡ backGAt (getD groups k []) s ⌝ }
 {
     let q = GROUPS[k];
-    ung(s, q[0], q[1], q[2], q[3])
+    back_g(s, q[0], q[1], q[2], q[3])
 }
 
 // A round: the table read forward. Eight calls, since a loop over the table is not unrolled.
@@ -52,15 +52,15 @@ pub fn round(s: [u64; 16]) -> [u64; 16]
 }
 
 // A round undone: the table read backward.
-pub fn unround(s: [u64; 16]) -> [u64; 16]
-    ensures { λ r. ⌜ r ≡ unRound s ⌝ }
+pub fn back_round(s: [u64; 16]) -> [u64; 16]
+    ensures { λ r. ⌜ r ≡ backRound s ⌝ }
 {
-    let s7 = unstep(s, 7);
-    let s6 = unstep(s7, 6);
-    let s5 = unstep(s6, 5);
-    let s4 = unstep(s5, 4);
-    let s3 = unstep(s4, 3);
-    let s2 = unstep(s3, 2);
-    let s1 = unstep(s2, 1);
-    unstep(s1, 0)
+    let s7 = back_step(s, 7);
+    let s6 = back_step(s7, 6);
+    let s5 = back_step(s6, 5);
+    let s4 = back_step(s5, 4);
+    let s3 = back_step(s4, 3);
+    let s2 = back_step(s3, 2);
+    let s1 = back_step(s2, 1);
+    back_step(s1, 0)
 }

@@ -8,7 +8,7 @@ use lib.ListN.{length, drop}
 use Rattle.words.specs.Sequence.{times}
 use Rattle.words.specs.Block.{blockOf, bytesOf}
 use Rattle.masks.specs.Steps.{alpha, beta, gamma}
-use Rattle.back_steps.specs.BackSteps.{unAlpha, unBeta, unGamma}
+use Rattle.back_steps.specs.BackSteps.{backAlpha, backBeta, backGamma}
 use Rattle.answers.specs.Answers.{refuse}
 use Rattle.answers.specs.declared.Answer.{Answer}
 use Rattle.answers.specs.declared.Answer.the-variants.{Done, OutputLength, StartLength, NetCount, StepByte, ListLength}
@@ -19,9 +19,9 @@ step zero b = b
 step (suc zero) b = alpha b
 step (suc (suc zero)) b = beta b
 step (suc (suc (suc zero))) b = gamma b
-step (suc (suc (suc (suc zero)))) b = unAlpha b
-step (suc (suc (suc (suc (suc zero))))) b = unBeta b
-step (suc (suc (suc (suc (suc (suc zero)))))) b = unGamma b
+step (suc (suc (suc (suc zero)))) b = backAlpha b
+step (suc (suc (suc (suc (suc zero))))) b = backBeta b
+step (suc (suc (suc (suc (suc (suc zero)))))) b = backGamma b
 step (suc (suc (suc (suc (suc (suc (suc k))))))) b = b
 
 -- the block reached by taking each step in turn; an empty list stays at the start
@@ -36,7 +36,7 @@ taken forward back (negsuc n) b = times back (suc n) b
 
 -- the block after i alpha, then j beta, then k gamma steps
 unfoldable pub jumped : ℤ → ℤ → ℤ → List ℕ → List ℕ
-jumped i j k b = taken gamma unGamma k (taken beta unBeta j (taken alpha unAlpha i b))
+jumped i j k b = taken gamma backGamma k (taken beta backBeta j (taken alpha backAlpha i b))
 
 -- a step byte from 1 to 6
 unfoldable pub isStep : ℕ → Bool

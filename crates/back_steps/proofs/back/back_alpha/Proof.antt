@@ -1,10 +1,10 @@
 -- A literal of sixteen words is the definition's list, and back-meets says the rest. Assumes nothing.
 use Rattle.words.specs.Block.{Block}
 use Rattle.masks.specs.Steps.{alpha}
-use Rattle.back_steps.specs.BackSteps.{unAlpha}
+use Rattle.back_steps.specs.BackSteps.{backAlpha}
 use Rattle.back_steps.proofs.Laws.{back-meets, alpha-step}
 use Rattle.masks.proofs.Arrays.{array-block}
-use Rattle.back_steps.proofs.Arrays.{unAlpha-words}
+use Rattle.back_steps.proofs.Arrays.{backAlpha-words}
 use borrow.Author.Needs.{needs}
 use Rattle.back_steps.proofs.back.back_alpha.Statement.{statement}
 use Rattle.back_steps.proofs.back.back_alpha.Tie as tie
@@ -70,7 +70,7 @@ returns : tie.Need-returns
 returns c =
     let s = c .before .before .args .t1 in
     let h : Block s = array-block _ _ (c .before .before .good .0) in
-    back-meets alpha unAlpha alpha-step s _ h (rw (unAlpha-words s h, c .rotate-right .ensures, c .before .shift-left .ensures))
+    back-meets alpha backAlpha alpha-step s _ h (rw (backAlpha-words s h, c .rotate-right .ensures, c .before .shift-left .ensures))
 
 pub back-alpha-spec : {M : Type 1} → statement M
 back-alpha-spec =

@@ -1,7 +1,7 @@
 -- The calls in turn give the definition, and back-meets says the rest. Assumes nothing.
 use Rattle.masks.specs.Steps.{beta}
 use Rattle.back_steps.specs.Tables.{betaTable}
-use Rattle.back_steps.specs.BackSteps.{betaWord, unBeta}
+use Rattle.back_steps.specs.BackSteps.{betaWord, backBeta}
 use Rattle.back_steps.proofs.Laws.{back-meets, beta-step}
 use Rattle.masks.proofs.Arrays.{array-block}
 use Rattle.back_steps.proofs.Arrays.{beta-side-is}
@@ -34,12 +34,12 @@ beta-run-requires-2 : tie.Need-beta-run-requires-2
 beta-run-requires-2 c κs = search needs
 
 returns : tie.Need-returns
-unfolding unBeta betaWord betaTable
+unfolding backBeta betaWord betaTable
 returns c =
     let start = c .before .before .before .before .before in
     let s = start .args .t1 in
     let side = beta-side-is s _ (c .before .before .before .before .beta-run .ensures) in
-    back-meets beta unBeta beta-step s _ (array-block _ _ (start .good .0))
+    back-meets beta backBeta beta-step s _ (array-block _ _ (start .good .0))
     (rw (c .beta-run2 .ensures, c .before .choose .ensures, c .before .before .before .shift-left .ensures, side))
 
 pub back-beta-spec : {M : Type 1} → statement M

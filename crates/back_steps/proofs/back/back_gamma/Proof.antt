@@ -1,7 +1,7 @@
 -- The calls in turn give the definition, and back-meets says the rest. Assumes nothing.
 use Rattle.masks.specs.Steps.{gamma}
 use Rattle.back_steps.specs.Tables.{gammaTable}
-use Rattle.back_steps.specs.BackSteps.{unGamma}
+use Rattle.back_steps.specs.BackSteps.{backGamma}
 use Rattle.back_steps.proofs.Laws.{back-meets, gamma-step}
 use Rattle.masks.proofs.Arrays.{array-block}
 use Rattle.back_steps.proofs.Arrays.{gamma-side-16, gamma-side-17}
@@ -49,12 +49,12 @@ gamma-run-requires-2 : tie.Need-gamma-run-requires-2
 gamma-run-requires-2 c κs = search needs
 
 returns : tie.Need-returns
-unfolding unGamma gammaTable
+unfolding backGamma gammaTable
 returns c =
     let start = c .before .before .before .before .before .before .before .before .before in
     let run = c .before .before .before .before .before .before .before .before .gamma-run .ensures in
     let s = start .args .t1 in
-    back-meets gamma unGamma gamma-step s _ (array-block _ _ (start .good .0))
+    back-meets gamma backGamma gamma-step s _ (array-block _ _ (start .good .0))
     (rw (
       c .gamma-run2 .ensures,
       c .before .gamma-word2 .ensures,

@@ -1,5 +1,5 @@
 -- The three calls, one inside the other. Assumes nothing.
-use Rattle.mem.specs.Mem.{under}
+use Rattle.mem.specs.Mem.{encipher}
 use borrow.Author.Needs.{needs}
 use Rattle.mem.proofs.cipher.encipher.Statement.{statement}
 use Rattle.mem.proofs.cipher.encipher.Tie as tie
@@ -14,7 +14,7 @@ xor-requires-2 : tie.Need-xor-requires-2
 xor-requires-2 c κs = search needs
 
 returns : tie.Need-returns
-unfolding under
+unfolding encipher
 returns c = rw (c .xor2 .ensures, c .before .permute .ensures, c .before .before .xor .ensures)
 
 pub encipher-spec : {M : Type 1} → statement M

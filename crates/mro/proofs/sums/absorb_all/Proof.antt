@@ -4,7 +4,7 @@ use native.Mathlib.Omega.{arith}
 use denote.Ref.{now}
 use Rattle.words.specs.Block.{xorBlock}
 use Rattle.words.proofs.Lists.{tailPart}
-use Rattle.mem.specs.Mem.{under}
+use Rattle.mem.specs.Mem.{encipher}
 use Rattle.blockplan.specs.Plan.{whole}
 use Rattle.mro.proofs.Absorbed.{blocks-whole, summed-left}
 use borrow.Author.Needs.{needs}
@@ -45,7 +45,7 @@ returns-2 c =
     let front = c .before .before .before .before .before .before .before .absorb in
     let s = now (start .args .s) in
     summed-left _ (start .args .first) s _ _ (omega arith) (front .ensures .0)
-    (c .xor .ensures ∙ ap (xorBlock _) (c .before .encipher .ensures ∙ ap₂ (under _) (front .ensures .1) (rw tailPart at (c .before .before .padded .ensures))))
+    (c .xor .ensures ∙ ap (xorBlock _) (c .before .encipher .ensures ∙ ap₂ (encipher _) (front .ensures .1) (rw tailPart at (c .before .before .padded .ensures))))
 
 pub absorb-all-spec : {M : Type 1} → statement M
 absorb-all-spec =

@@ -6,7 +6,7 @@ use Rattle.words.specs.Sequence.{tab, zeros, times}
 use Rattle.words.specs.Block.{xorBlock}
 use Rattle.masks.specs.Steps.{beta}
 use Rattle.masks.proofs.Arrays.{array-block}
-use Rattle.mem.specs.Mem.{maskAt, under, encipher}
+use Rattle.mem.specs.Mem.{maskAt, encipher, E}
 use Rattle.mro.specs.Mro.{lengths}
 use Rattle.mro.proofs.Absorbed.{sum-is}
 use denote.Ref.{now}
@@ -36,7 +36,7 @@ encipher-requires : tie.Need-encipher-requires
 encipher-requires c κs = search needs
 
 returns : tie.Need-returns
-unfolding encipher maskAt times lengths zeros tab
+unfolding E maskAt times lengths zeros tab
 returns c =
     let start = c .before .before .before .before .before .before .before .before .before in
     let rounds = start .args .rounds in
@@ -52,7 +52,7 @@ returns c =
       c .before .before .before .before .before .absorb-all .ensures,
       c .before .before .before .before .before .before .beta .ensures,
     )
-    (ap (λ (sum : List ℕ). under rounds (beta (beta first)) (xorBlock sum (lengths header message))) (sum-is rounds first header message (array-block _ _ (start .good .0))))
+    (ap (λ (sum : List ℕ). encipher rounds (beta (beta first)) (xorBlock sum (lengths header message))) (sum-is rounds first header message (array-block _ _ (start .good .0))))
 
 pub tag-block-spec : {M : Type 1} → statement M
 tag-block-spec =

@@ -6,7 +6,7 @@ use lib.Seq.{length-take-le, take-at}
 use denote.Ref.{now}
 use Rattle.words.specs.Block.{xorBlock}
 use Rattle.words.proofs.Blocks.{length-xorBytes}
-use Rattle.mem.specs.Mem.{under}
+use Rattle.mem.specs.Mem.{encipher}
 use borrow.Author.Needs.{needs}
 use Rattle.opp.proofs.message.pass_leftover.Statement.{statement}
 use Rattle.opp.proofs.message.pass_leftover.Tie as tie
@@ -44,7 +44,7 @@ returns c =
     let s = now (a .s) in
     let mask = c .before .before .before .before .before .before .before .before .before .before .beta .ensures in
     let stream = c .before .before .before .before .before .before .before .before .encipher .ensures
-    ∙ ap₂ (under (a .rounds)) mask (c .before .before .before .before .before .before .before .before .before .zero .ensures) in
+    ∙ ap₂ (encipher (a .rounds)) mask (c .before .before .before .before .before .before .before .before .before .zero .ensures) in
     let put = rw stream at (c .before .before .before .before .before .before .xor-leftover .ensures) in
     let front = ap (take (length s)) put ∙ take-at _ _ (length s) (length-xorBytes s _) in
     let last = rw front at (c .before .before .padded-plain .ensures) in

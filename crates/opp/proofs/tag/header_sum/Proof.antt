@@ -7,7 +7,7 @@ use denote.Ref.{now}
 use Rattle.words.specs.Block.{xorBlock}
 use Rattle.words.proofs.Lists.{tailPart}
 use Rattle.masks.specs.Steps.{beta}
-use Rattle.mem.specs.Mem.{under}
+use Rattle.mem.specs.Mem.{encipher}
 use Rattle.blockplan.specs.Plan.{whole, left}
 use Rattle.opp.specs.Opp.{padded}
 use Rattle.opp.proofs.Sums.{sum-none, sum-some}
@@ -59,7 +59,7 @@ returns-2 c =
     let q : 128 * whole h ≡ length h → ⊥ = λ e. c .before .before .before .before .before .before .if1 .left (omega arith) in
     let mask = c .before .before .beta .ensures ∙ ap beta (blocks .1) in
     let block = c .before .before .before .padded .ensures ∙ ap padded (tailPart (128 * whole h) h) in
-    c .xor .ensures ∙ ap₂ xorBlock (blocks .0) (c .before .encipher .ensures ∙ ap₂ (under (a .rounds)) mask block) ∙ sym (sum-some (a .rounds) (a .start) h q)
+    c .xor .ensures ∙ ap₂ xorBlock (blocks .0) (c .before .encipher .ensures ∙ ap₂ (encipher (a .rounds)) mask block) ∙ sym (sum-some (a .rounds) (a .start) h q)
 
 pub header-sum-spec : {M : Type 1} → statement M
 header-sum-spec =

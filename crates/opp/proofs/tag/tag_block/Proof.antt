@@ -4,7 +4,7 @@ use mathlib.Core.List.{List}
 use Prim.Native.Nat.{ℕ}
 use Rattle.words.specs.Block.{xorBlock}
 use Rattle.masks.specs.Steps.{beta}
-use Rattle.mem.specs.Mem.{under}
+use Rattle.mem.specs.Mem.{encipher}
 use borrow.Author.Needs.{needs}
 use Rattle.opp.proofs.tag.tag_block.Statement.{statement}
 use Rattle.opp.proofs.tag.tag_block.Tie as tie
@@ -29,7 +29,7 @@ returns c =
     let a = c .before .before .before .before .before .before .before .before .args in
     let mask = c .before .before .beta2 .ensures ∙ ap beta (c .before .before .before .beta .ensures) in
     c .xor .ensures
-    ∙ ap₂ xorBlock (c .before .before .before .before .header-sum .ensures) (c .before .encipher .ensures ∙ ap (λ (m : List ℕ). under (a .rounds) m (a .passed .check)) mask)
+    ∙ ap₂ xorBlock (c .before .before .before .before .header-sum .ensures) (c .before .encipher .ensures ∙ ap (λ (m : List ℕ). encipher (a .rounds) m (a .passed .check)) mask)
 
 pub tag-block-spec : {M : Type 1} → statement M
 tag-block-spec =

@@ -4,7 +4,7 @@ use denote.Ref.{now}
 use Rattle.words.specs.Block.{blockOf, bytesOf}
 use Rattle.words.proofs.Lists.{fronted, tailPart}
 use Rattle.words.proofs.Blocks.{length-bytesOf}
-use Rattle.mem.specs.Mem.{under}
+use Rattle.mem.specs.Mem.{encipher}
 use borrow.Author.Needs.{needs}
 use Rattle.opp_blocks.proofs.sealing.seal_pair.Statement.{statement}
 use Rattle.opp_blocks.proofs.sealing.seal_pair.Tie as tie
@@ -73,8 +73,8 @@ returns : tie.Need-returns
 returns c =
     let a = c .before .before .before .before .before .before .before .before .before .before .before .before .before .before .before .before .before .before .before .before .args in
     let behind = tailPart 128 (now (a .s)) in
-    let first-made = under (a .rounds) (a .mask) (blockOf (now (a .s))) in
-    let second-made = under (a .rounds) (a .next) (blockOf (drop 128 (now (a .s)))) in
+    let first-made = encipher (a .rounds) (a .mask) (blockOf (now (a .s))) in
+    let second-made = encipher (a .rounds) (a .next) (blockOf (drop 128 (now (a .s)))) in
     let first = rw (c .before .before .before .before .before .before .before .before .before .before .before .before .before .before .before .before .encipher .ensures, c .before .before .before .before .before .before .before .before .before .before .before .before .before .before .before .before .before .load .ensures) at (c .before .before .before .before .before .before .before .before .before .before .before .before .before .before .store .ensures) in
     let second = rw (c .before .before .before .before .before .before .before .before .before .encipher2 .ensures, c .before .before .before .before .before .before .before .before .before .before .load2 .ensures, behind) at (c .before .before .before .before .before .before .before .store2 .ensures) in (
       fronted 128 128 (bytesOf first-made) (bytesOf second-made) (now (a .out)) _ _ (length-bytesOf first-made) first second,

@@ -1,8 +1,8 @@
 -- The eight lines undone, each what its call ensures. Assumes nothing.
-use Rattle.permutation.specs.Permutation.{unGAt, stepAt, pick, put, unGOf, unHalf}
+use Rattle.permutation.specs.Permutation.{backGAt, stepAt, pick, put, backGOf, backHalf}
 use borrow.Author.Needs.{needs}
-use Rattle.permutation.proofs.g.ung.Statement.{statement}
-use Rattle.permutation.proofs.g.ung.Tie as tie
+use Rattle.permutation.proofs.g.back_g.Statement.{statement}
+use Rattle.permutation.proofs.g.back_g.Tie as tie
 
 mul-a : tie.Need-mul-a
 mul-a c = search needs
@@ -77,12 +77,12 @@ array-write-r-4 : tie.Need-array-write-r-4
 array-write-r-4 c = search needs
 
 returns : tie.Need-returns
-unfolding unGAt stepAt pick put unGOf unHalf
+unfolding backGAt stepAt pick put backGOf backHalf
 returns c =
     rw (c .sub4 .ensures, c .before .rotate-left4 .ensures, c .before .before .sub3 .ensures, c .before .before .before .rotate-left3 .ensures, c .before .before .before .before .sub2 .ensures, c .before .before .before .before .before .rotate-left2 .ensures, c .before .before .before .before .before .before .sub .ensures, c .before .before .before .before .before .before .before .rotate-left .ensures)
 
-pub ung-spec : {M : Type 1} → statement M
-ung-spec =
+pub back-g-spec : {M : Type 1} → statement M
+back-g-spec =
     tie.close
     (tie.spec
     mul-a

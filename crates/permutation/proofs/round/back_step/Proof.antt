@@ -1,0 +1,48 @@
+-- The row is one of the eight groups: four places of a block. Assumes nothing.
+use mathlib.Core.List.{[]}
+use lib.ListN.{getD}
+use Rattle.permutation.specs.Permutation.{groups, backGAt, stepAt, pick, put}
+use Rattle.permutation.proofs.Places.{row-in}
+use Rattle.permutation.proofs.Groups.{row-at, groups-rows}
+use borrow.Author.Needs.{needs}
+use Rattle.permutation.proofs.round.back_step.Statement.{statement}
+use Rattle.permutation.proofs.round.back_step.Tie as tie
+
+mul-q : tie.Need-mul-q
+mul-q c = search needs
+
+array-copy-out-q : tie.Need-array-copy-out-q
+array-copy-out-q c = search needs
+
+array-read-back-g : tie.Need-array-read-back-g
+array-read-back-g c = search needs
+
+array-read-back-g-2 : tie.Need-array-read-back-g-2
+array-read-back-g-2 c = search needs
+
+array-read-back-g-3 : tie.Need-array-read-back-g-3
+array-read-back-g-3 c = search needs
+
+array-read-back-g-4 : tie.Need-array-read-back-g-4
+array-read-back-g-4 c = search needs
+
+returns : tie.Need-returns
+unfolding groups backGAt stepAt pick put
+returns c = c .back-g .ensures
+
+back-g-requires : tie.Need-back-g-requires
+unfolding groups
+back-g-requires c κs = row-in (getD groups (c .before .args .k) []) (row-at groups groups-rows (c .before .args .k) (c .before .pre))
+
+pub back-step-spec : {M : Type 1} → statement M
+back-step-spec =
+    tie.close
+    (tie.spec
+    mul-q
+    array-copy-out-q
+    array-read-back-g
+    array-read-back-g-2
+    array-read-back-g-3
+    array-read-back-g-4
+    back-g-requires
+    returns)
