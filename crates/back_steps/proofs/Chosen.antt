@@ -1,18 +1,20 @@
 -- The words of a table that the bits of a number choose: the choice keeps exclusive or, and one bit alone chooses its row.
 -- Assumes nothing.
 use mathlib.Core.Path.{_≡_, refl, sym, ap, ap₂, _∙_}
+use mathlib.Core.Bool.{true}
 use mathlib.Core.List.{List}
 use Prim.Native.Nat.{ℕ, zero, suc, _+_, _-_, _*_, _/_, _%_, _^_, _≤_, _<_}
 use native.Mathlib.Nat.{mod-lt, mul-one, mul-zero, pow-suc, mul-mod-left, div-self, div-eq-of-lt}
 use native.Mathlib.Omega.{arith}
 use native.Mathlib.Decide.{decLt}
-use lib.Dec.{T, lit<}
+use lib.Dec.{eqb, lit<}
 use lib.ListN.{length, getD, List·getD-eq-default}
 use lib.Pow.{pow-pos, pow-lt, pow-add, shl-shr}
 use lib.Bits.{bitXor, xor-lt, xor-self, xor-zero-r, xor-shr, xor-mod}
-use Rattle.words.proofs.Xor.{xor-swap}
+use Rattle.words.proofs.Truth.{allBelow, equal-below}
+use Rattle.words.proofs.Xor.{Digit, off, on, digit, xor-swap}
 use Rattle.back_steps.specs.BackSteps.{chosen}
-use Rattle.masks.proofs.Linear.{OnWord, Digit, off, on, digit, same, carried, zero-kept}
+use Rattle.masks.proofs.Linear.{OnWord, zero-kept}
 
 -- ---- a word times a bit
 
@@ -85,8 +87,8 @@ module _ (t : List ℕ) (small : (i : ℕ) → getD t i 0 < 2 ^ 64) (at step : �
   ]
 
 -- the words of a table are below 2^64: one test, carried to each
-pub small-words : (t : List ℕ) → T (same (λ i. getD t i 0 / 2 ^ 64) (λ i. 0) (length t)) → (i : ℕ) → getD t i 0 < 2 ^ 64
+pub small-words : (t : List ℕ) → allBelow (λ i. eqb (getD t i 0 / 2 ^ 64) 0) (length t) ≡ true → (i : ℕ) → getD t i 0 < 2 ^ 64
 small-words t p i = elim (decLt i (length t)) [
-  | yes h ↦ let e : getD t i 0 / 2 ^ 64 ≡ 0 = carried (λ i. getD t i 0 / 2 ^ 64) (λ i. 0) (length t) p i h in omega arith
+  | yes h ↦ let e : getD t i 0 / 2 ^ 64 ≡ 0 = equal-below (λ i. getD t i 0 / 2 ^ 64) (λ i. 0) (length t) p i h in omega arith
   | no q ↦ rw (List·getD-eq-default t 0 {n = i} (omega arith)) (pow-pos 64)
 ]

@@ -1,6 +1,6 @@
 -- The tables solve for the back steps: the rule of each is one test over the whole table, and it is carried to each row.
 -- Assumes nothing.
-use mathlib.Core.Path.{_≡_, sym, ap, ap₂, _∙_}
+use mathlib.Core.Path.{_≡_, refl, sym, ap, ap₂, _∙_}
 use Prim.Native.Nat.{ℕ, _+_, _-_, _*_, _/_, _%_, _^_, _<_}
 use native.Mathlib.Nat.{mul-mod-left, mod-eq-of-lt, div-eq-of-lt}
 use native.Mathlib.Omega.{arith}
@@ -9,13 +9,12 @@ use lib.ListN.{getD}
 use lib.Pow.{pow-lt, pow-add, shl-shr}
 use lib.Bits.{bitXor, xor-zero-r}
 use Rattle.words.specs.Word.{rotR, rotL, shl}
+use Rattle.words.proofs.Truth.{allBelow, equal-below}
 use Rattle.back_steps.specs.Tables.{betaTable, gammaTable}
 use Rattle.back_steps.specs.BackSteps.{chosen, betaWord, gammaWord}
 use Rattle.masks.proofs.Laws.{word-rotL, word-shl}
-use Rattle.masks.proofs.Linear.{OnWord, OnPair, same, carried, joined, onJoined, word-id, word-xor, word-after, word-same, pair-xor, pair-after, pair-same}
+use Rattle.masks.proofs.Linear.{OnWord, OnPair, joined, onJoined, word-id, word-xor, word-after, word-same, pair-xor, pair-after, pair-same}
 use Rattle.back_steps.proofs.Chosen.{word-chosen, chosen-zero, chosen-unit, small-words}
-
--- ---- what a step does to a word
 
 -- ---- backward beta: one word
 
@@ -28,8 +27,8 @@ unfolding betaOn
 word-betaOn = word-xor (λ x. bitXor (rotL 53 x) (shl 13 x)) (λ x. x) (word-xor (rotL 53) (shl 13) word-rotL word-shl) word-id
 
 beta-small : (i : ℕ) → getD betaTable i 0 < 2 ^ 64
-unfolding betaTable same
-beta-small = small-words betaTable tt
+unfolding betaTable allBelow
+beta-small = small-words betaTable refl
 
 pub word-betaWord : OnWord betaWord
 unfolding betaWord
@@ -37,8 +36,8 @@ word-betaWord = word-chosen betaTable beta-small 0 1 64
 
 -- the rule of the table: row k solves for the k-th bit
 pub beta-rule : (k : ℕ) → k < 64 → betaOn (getD betaTable (0 + 1 * k) 0) ≡ 2 ^ k
-unfolding betaTable same betaOn rotL rotR shl
-beta-rule = carried (λ k. betaOn (getD betaTable (0 + 1 * k) 0)) (λ k. 2 ^ k) 64 tt
+unfolding betaTable allBelow betaOn rotL rotR shl
+beta-rule = equal-below (λ k. betaOn (getD betaTable (0 + 1 * k) 0)) (λ k. 2 ^ k) 64 refl
 
 pub beta-solved : (e : ℕ) → e < 2 ^ 64 → betaOn (betaWord e) ≡ e
 unfolding betaWord
@@ -47,8 +46,8 @@ beta-solved =
     (λ j h. ap betaOn (chosen-unit betaTable beta-small 0 1 j 64 h) ∙ beta-rule j h)
 
 beta-units : (j : ℕ) → j < 64 → betaWord (betaOn (2 ^ j)) ≡ 2 ^ j
-unfolding betaTable betaWord chosen same betaOn rotL rotR shl
-beta-units = carried (λ j. betaWord (betaOn (2 ^ j))) (λ j. 2 ^ j) 64 tt
+unfolding betaTable betaWord chosen allBelow betaOn rotL rotR shl
+beta-units = equal-below (λ j. betaWord (betaOn (2 ^ j))) (λ j. 2 ^ j) 64 refl
 
 pub beta-found : (x : ℕ) → x < 2 ^ 64 → betaWord (betaOn x) ≡ x
 beta-found = word-same (λ x. betaWord (betaOn x)) (word-after betaWord betaOn word-betaWord word-betaOn) beta-units
@@ -75,8 +74,8 @@ pair-gammaY =
     (word-xor (λ x. x) (shl 13) word-id word-shl) (word-xor (λ y. y) (rotL 53) word-id word-rotL)
 
 gamma-small : (i : ℕ) → getD gammaTable i 0 < 2 ^ 64
-unfolding gammaTable same
-gamma-small = small-words gammaTable tt
+unfolding gammaTable allBelow
+gamma-small = small-words gammaTable refl
 
 pub pair-gammaWord : (at : ℕ) → OnPair (gammaWord gammaTable at)
 unfolding gammaWord
@@ -89,8 +88,8 @@ unfoldable pub row : ℕ → ℕ
 row k = joined (gammaX (getD gammaTable (0 + 2 * k) 0) (getD gammaTable (1 + 2 * k) 0)) (gammaY (getD gammaTable (0 + 2 * k) 0) (getD gammaTable (1 + 2 * k) 0))
 
 pub gamma-rule : (k : ℕ) → k < 128 → row k ≡ 2 ^ k
-unfolding gammaTable same gammaX gammaY rotL rotR shl joined row
-gamma-rule = carried row (λ k. 2 ^ k) 128 tt
+unfolding gammaTable allBelow gammaX gammaY rotL rotR shl joined row
+gamma-rule = equal-below row (λ k. 2 ^ k) 128 refl
 
 -- one bit alone chooses its row
 gamma-unit : (at k : ℕ) → k < 128 → gammaWord gammaTable at (2 ^ k % 2 ^ 64) (2 ^ k / 2 ^ 64) ≡ getD gammaTable (at + 2 * k) 0
@@ -117,10 +116,10 @@ gamma-solved =
 
 gamma-units : (k : ℕ) → k < 128
     → onJoined (λ x y. gammaWord gammaTable 0 (gammaX x y) (gammaY x y)) (λ x y. gammaWord gammaTable 1 (gammaX x y) (gammaY x y)) (2 ^ k) ≡ 2 ^ k
-unfolding gammaTable chosen same gammaX gammaY rotL rotR shl joined onJoined gammaWord
+unfolding gammaTable chosen allBelow gammaX gammaY rotL rotR shl joined onJoined gammaWord
 gamma-units =
-    carried (λ k. onJoined (λ x y. gammaWord gammaTable 0 (gammaX x y) (gammaY x y)) (λ x y. gammaWord gammaTable 1 (gammaX x y) (gammaY x y)) (2 ^ k))
-    (λ k. 2 ^ k) 128 tt
+    equal-below (λ k. onJoined (λ x y. gammaWord gammaTable 0 (gammaX x y) (gammaY x y)) (λ x y. gammaWord gammaTable 1 (gammaX x y) (gammaY x y)) (2 ^ k))
+    (λ k. 2 ^ k) 128 refl
 
 pub gamma-found : (x y : ℕ) → x < 2 ^ 64 → y < 2 ^ 64
     → (gammaWord gammaTable 0 (gammaX x y) (gammaY x y) ≡ x) × (gammaWord gammaTable 1 (gammaX x y) (gammaY x y) ≡ y)

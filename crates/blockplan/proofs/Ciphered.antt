@@ -9,13 +9,8 @@ use lib.Seq.{drop-at}
 use Rattle.words.specs.Sequence.{cat}
 use Rattle.words.specs.Block.{Block, Bytes, blockOf, bytesOf, xorBytes}
 use Rattle.words.proofs.Lists.{length-cat, piece, pieces, cat-ext}
-use Rattle.words.proofs.Blocks.{length-bytesOf, bytes-bytesOf, length-xorBytes, bytes-xorBytes, xorBytes-cancel, bytes-append, bytes-nil, bytes-drop, block-blockOf, blockOf-bytesOf, bytesOf-blockOf}
+use Rattle.words.proofs.Blocks.{length-bytesOf, bytes-bytesOf, length-xorBytes, bytes-xorBytes, xorBytes-cancel, bytes-append, bytes-cat, bytes-drop, block-blockOf, blockOf-bytesOf, bytesOf-blockOf}
 use Rattle.blockplan.specs.Plan.{whole, left, hasLeft, blockAt, ciphered}
-
-bytes-cat : (f : ℕ → List ℕ) (n : ℕ) → ((i : ℕ) → Bytes (f i)) → Bytes (cat f n)
-unfolding cat
-bytes-cat f zero h = bytes-nil
-bytes-cat f (suc n) h = bytes-append (cat f n) (f n) (bytes-cat f n h) (h n)
 
 -- ---- whole blocks and leftover of any bytes
 

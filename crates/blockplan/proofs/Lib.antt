@@ -1,2 +1,3 @@
 pub mod Ciphered
 pub mod Plans
+pub mod Parcels

@@ -14,6 +14,7 @@ use lib.Seq.{take-suc, take-all, length-take-le, getD-append-add, getD-drop, dro
 use borrow.Author.Tests.{eq-eqb, ne-eqb, eqb-true}
 use Rattle.words.specs.Sequence.{fold, tab, zeros}
 use Rattle.words.specs.Block.{Block, bytesOf, xorBlock}
+use Rattle.words.proofs.Truth.{both, allBelow, equal-below}
 use Rattle.words.proofs.Xor.{xor-cancel-r}
 use Rattle.words.proofs.Lists.{length-tab, front}
 use Rattle.words.proofs.Blocks.{xor-block, zero-block, length-bytesOf}
@@ -43,10 +44,6 @@ whole-is s i r e h = omega arith
 
 -- ---- bytes kept or cleared
 
-both : (a b : Bool) → (a && b) ≡ true → (a ≡ true) × (b ≡ true)
-both true b e = (refl, e)
-both false b e = absurd (false≢true e)
-
 -- byte j where it is kept, else zero
 unfoldable pub keptAt : Bool → List ℕ → ℕ → ℕ
 keptAt right s j = cond right (getD s j 0) 0
@@ -64,22 +61,10 @@ orUp k x = bitOr x (x / k)
 unfoldable pub maskOf : ℕ → ℕ
 maskOf d = 255 * (1 - orUp 2 (orUp 4 (orUp 16 d)) % 2)
 
-unfoldable allBelow : (ℕ → Bool) → ℕ → Bool
-allBelow test zero = true
-allBelow test (suc n) = test n && allBelow test n
-
-below : (test : ℕ → Bool) (n : ℕ) → allBelow test n ≡ true → (d : ℕ) → d < n → test d ≡ true
-unfolding allBelow
-below test zero e d h = absurd (omega arith)
-below test (suc n) e d h = elim (ℕ-discrete d n) [
-  | yes p ↦ rw p (both (test n) (allBelow test n) e .0)
-  | no p ↦ below test n (both (test n) (allBelow test n) e .1) d (omega arith)
-]
-
 -- tried for each byte
 pub mask-is : (d : ℕ) → d < 256 → maskOf d ≡ cond (eqb d 0) 255 0
 unfolding maskOf orUp allBelow
-mask-is d h = eqb-true _ _ (below (λ (x : ℕ). eqb (maskOf x) (cond (eqb x 0) 255 0)) 256 refl d h)
+mask-is d h = equal-below maskOf (λ x. cond (eqb x 0) 255 0) 256 refl d h
 
 -- what a list filled from the front still holds at the next place
 pub untouched : (f : ℕ → ℕ) (i : ℕ) (old xs : List ℕ) → xs ≡ tab f i ++ drop i old → getD xs i 0 ≡ getD old i 0

@@ -7,10 +7,7 @@ use native.Mathlib.Omega.{arith}
 use lib.Pow.{pow-pos, pow-lt, split, shr-lt, high, low}
 use lib.Arith.{digits-lt}
 use lib.Bits.{bitXor, xor-lt, xor-self, xor-shifted, xor-shr, xor-mod, xor-block}
-use lib.Dec.{T, eqb, eqb→eq}
-use mathlib.Core.Bool.{Bool, true, false}
-use native.Mathlib.Decide.{decLt}
-use Rattle.words.proofs.Xor.{xor-swap}
+use Rattle.words.proofs.Xor.{Digit, off, on, digit, xor-swap}
 
 -- f keeps exclusive or of numbers of n bits
 pub record Keeps (n : ℕ) (f : ℕ → ℕ) : Type 0 where
@@ -19,15 +16,6 @@ pub record Keeps (n : ℕ) (f : ℕ → ℕ) : Type 0 where
 -- zero is kept
 pub zero-kept : (n : ℕ) (f : ℕ → ℕ) → Keeps n f → f 0 ≡ 0
 zero-kept n f k = k .keeps 0 0 (pow-pos n) (pow-pos n) ∙ xor-self (f 0)
-
-pub data Digit : ℕ → Type 0 where
-  off : Digit 0
-  on : Digit 1
-
-pub digit : (n : ℕ) → n < 2 → Digit n
-digit zero h = off
-digit (suc zero) h = on
-digit (suc (suc n)) h = absurd (omega arith)
 
 module _ (n : ℕ) (f g : ℕ → ℕ) (kf : Keeps n f) (kg : Keeps n g) (h : (j : ℕ) → j < n → f (2 ^ j) ≡ g (2 ^ j)) where
   -- the top bit and the rest
@@ -49,34 +37,6 @@ module _ (n : ℕ) (f g : ℕ → ℕ) (kf : Keeps n f) (kg : Keeps n g) (h : (j
 
   pub agree : (x : ℕ) → x < 2 ^ n → f x ≡ g x
   agree = up-to n (omega arith)
-
--- ---- one test, computed for each number below n
-
-abbrev both : Bool → Bool → Bool
-both true b = b
-both false b = false
-
-both-left : (a b : Bool) → T (both a b) → T a
-both-left true b t = tt
-both-left false b t = t
-
-both-right : (a b : Bool) → T (both a b) → T b
-both-right true b t = t
-both-right false b t = absurd t
-
--- f and g are equal at each number below n
-unfoldable pub same : (ℕ → ℕ) → (ℕ → ℕ) → ℕ → Bool
-same f g zero = true
-same f g (suc n) = both (eqb (f n) (g n)) (same f g n)
-
--- the test, carried to each number
-pub carried : (f g : ℕ → ℕ) (n : ℕ) → T (same f g n) → (k : ℕ) → k < n → f k ≡ g k
-unfolding same
-carried f g zero t k h = absurd (omega arith)
-carried f g (suc n) t k h = elim (decLt k n) [
-  | yes p ↦ carried f g n (both-right (eqb (f n) (g n)) (same f g n) t) k p
-  | no q ↦ let e : k ≡ n = omega arith in rw e (eqb→eq (f n) (g n) (both-left (eqb (f n) (g n)) (same f g n) t))
-]
 
 -- ---- maps of one word, and of two words
 

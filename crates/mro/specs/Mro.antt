@@ -7,6 +7,7 @@ use Rattle.words.specs.Sequence.{tab, zeros}
 use Rattle.words.specs.Block.{wordAt, xorBlock}
 use Rattle.mem.specs.Mem.{E}
 use Rattle.blockplan.specs.Plan.{whole, hasLeft, blockAt, xorOver, ciphered, tagBytes}
+use Rattle.blockplan.specs.Parcel.{Mode}
 
 -- the number of blocks, a padded one included; leftovers are padded with zeros only, as blockAt does
 unfoldable pub blocks : List ℕ → ℕ
@@ -45,3 +46,12 @@ streamed rounds start tag i block = xorBlock block (mroStream rounds start tag i
 -- the ciphertext of a message under a tag, and the message of a ciphertext; a leftover is xored with the first bytes of that
 unfoldable pub mroCipher : ℕ → List ℕ → List ℕ → List ℕ → List ℕ
 mroCipher rounds start tag s = ciphered (streamed rounds start tag) (mroStream rounds start tag) s
+
+-- MRO as a mode; its ciphertext comes from the tag, and the stream is its own way back
+unfoldable pub mroMode : ℕ → List ℕ → Mode
+mroMode rounds start =
+    record {
+      tag = λ header message. mroTag rounds start header message;
+      cipher = λ tag message. mroCipher rounds start tag message;
+      plain = λ tag cipher. mroCipher rounds start tag cipher;
+    }

@@ -5,6 +5,7 @@ use Prim.Native.Nat.{ℕ}
 use Rattle.words.specs.Block.{blockOf, xorBlock, zeroBlock}
 use Rattle.mem.specs.Mem.{E, D}
 use Rattle.blockplan.specs.Plan.{whole, left, hasLeft, blockAt, xorOver, xorIf, ciphered, tagBytes}
+use Rattle.blockplan.specs.Parcel.{Mode}
 
 -- a leftover padded with byte 0x01 and then zeros
 unfoldable pub padded : List ℕ → List ℕ
@@ -50,3 +51,12 @@ oppCipher rounds start message = ciphered (sealAt rounds start) (oppStream round
 -- the message of a ciphertext; a leftover is xored as sealing does
 unfoldable pub oppPlain : ℕ → List ℕ → List ℕ → List ℕ
 oppPlain rounds start cipher = ciphered (openAt rounds start) (oppStream rounds start) cipher
+
+-- OPP as a mode; its ciphertext does not depend on the tag
+unfoldable pub oppMode : ℕ → List ℕ → Mode
+oppMode rounds start =
+    record {
+      tag = λ header message. oppTag rounds start header message;
+      cipher = λ tag message. oppCipher rounds start message;
+      plain = λ tag cipher. oppPlain rounds start cipher;
+    }

@@ -1,4 +1,3 @@
-pub mod Maps
 pub mod Lines
 pub mod Places
 pub mod Groups

@@ -9,8 +9,8 @@ use Rattle.words.specs.Word.{addW, subW, rotR, rotL}
 use Rattle.words.proofs.Xor.{xor-cancel-r}
 use Rattle.words.proofs.Words.{rotR-lt, rotR-back}
 use Rattle.permutation.specs.Permutation.{Quad, half, backHalf, gOf, backGOf}
-use Rattle.permutation.specs.Undo.{Undo}
-use Rattle.permutation.proofs.Maps.{undo-then}
+use Rattle.words.specs.Undo.{Undo}
+use Rattle.words.proofs.Maps.{undo-then}
 
 -- four words of 64 bits
 pub record Words (q : Quad) : Type 0 where

@@ -9,7 +9,7 @@ use lib.ListN.{length, getD, set, length-set}
 use lib.Seq.{getD-set-same, getD-set-other, set-getD, set-set, set-comm}
 use Rattle.words.specs.Block.{Block}
 use Rattle.permutation.specs.Permutation.{Quad, pick, put, stepAt}
-use Rattle.permutation.specs.Undo.{Undo}
+use Rattle.words.specs.Undo.{Undo}
 use Rattle.permutation.proofs.Lines.{Words, quad}
 
 -- four places of a block, no two of them the same

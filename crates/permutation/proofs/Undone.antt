@@ -4,8 +4,9 @@ use mathlib.Core.List.{List, [], _∷_}
 use Prim.Native.Nat.{ℕ}
 use Rattle.words.specs.Block.{Block}
 use Rattle.permutation.specs.Permutation.{gAt, backGAt, over, backOver, groups, round, backRound, perm, backPerm}
-use Rattle.permutation.specs.Undo.{Undo, BackUndoes}
-use Rattle.permutation.proofs.Maps.{undo-same, undo-then, undo-times}
+use Rattle.words.specs.Undo.{Undo}
+use Rattle.permutation.specs.Undo.{BackUndoes}
+use Rattle.words.proofs.Maps.{undo-same, undo-then, undo-times}
 use Rattle.permutation.proofs.Lines.{g-undo}
 use Rattle.permutation.proofs.Places.{Row, undo-at}
 use Rattle.permutation.proofs.Groups.{Rows, groups-rows}

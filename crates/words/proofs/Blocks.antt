@@ -140,7 +140,7 @@ bytes-take n s h = record {
   ];
 }
 
-bytes-cat : (f : ℕ → List ℕ) (n : ℕ) → ((i : ℕ) → Bytes (f i)) → Bytes (cat f n)
+pub bytes-cat : (f : ℕ → List ℕ) (n : ℕ) → ((i : ℕ) → Bytes (f i)) → Bytes (cat f n)
 unfolding cat
 bytes-cat f zero h = bytes-nil
 bytes-cat f (suc n) h = bytes-append (cat f n) (f n) (bytes-cat f n h) (h n)
@@ -159,7 +159,7 @@ pub bytes-bytesOf : (b : List ℕ) → Bytes (bytesOf b)
 unfolding bytesOf wordBytes
 bytes-bytesOf b = bytes-cat (wordBytes b) 16 (λ i. record { bytes = lowBytes-byte 8 (getD b i 0) })
 
-wordAt-lt : (s : List ℕ) (i : ℕ) → Bytes s → wordAt s i < 2 ^ 64
+pub wordAt-lt : (s : List ℕ) (i : ℕ) → Bytes s → wordAt s i < 2 ^ 64
 unfolding wordAt
 wordAt-lt s i h =
     let part = take 8 (drop (8 * i) s) in

@@ -6,11 +6,11 @@ use lib.Arith.{bin-ind}
 use lib.Bits.{bitXor, differ, xor-step, xor-zero-l, xor-zero-r, xor-self, xor-comm, xor-shr, xor-mod}
 
 -- two digits
-data Digit : ℕ → Type 0 where
+pub data Digit : ℕ → Type 0 where
   off : Digit 0
   on : Digit 1
 
-digit : (n : ℕ) → n < 2 → Digit n
+pub digit : (n : ℕ) → n < 2 → Digit n
 digit zero h = off
 digit (suc zero) h = on
 digit (suc (suc n)) h = absurd (omega arith)

@@ -1,3 +1,4 @@
 pub mod Sequence
 pub mod Word
 pub mod Block
+pub mod Undo

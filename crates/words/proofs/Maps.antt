@@ -2,9 +2,9 @@
 use mathlib.Core.Path.{_≡_, refl, sym, ap, _∙_}
 use mathlib.Core.List.{List}
 use Prim.Native.Nat.{ℕ, zero, suc}
 use Rattle.words.specs.Sequence.{times}
 use Rattle.words.proofs.Times.{times-first, times-keeps}
-use Rattle.permutation.specs.Undo.{Undo}
+use Rattle.words.specs.Undo.{Undo}
 
 module _ {A : Type 0} {P : A → Type 0} where
   pub undo-same : Undo P (λ x. x) (λ x. x)

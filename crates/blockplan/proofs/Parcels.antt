@@ -1,0 +1,70 @@
+-- Laws of parcels, for every mode that is lawful: a message comes back from its parcel, and a genuine parcel is that of its message. Assumes nothing.
+use mathlib.Core.Path.{_≡_, ap, ap₂, _∙_}
+use mathlib.Core.Bool.{true}
+use mathlib.Core.List.{List, _++_}
+use Prim.Native.Nat.{ℕ, _+_, _-_, _≤_}
+use native.Mathlib.Omega.{arith}
+use lib.ListN.{length, take, drop, length-append, take-append-drop}
+use lib.Seq.{take-at, drop-at, length-take-le}
+use Rattle.words.specs.Block.{Bytes}
+use Rattle.words.proofs.Blocks.{bytes-append, bytes-take}
+use Rattle.blockplan.specs.Parcel.{Mode, Lawful, parcelOf, cipherPart, tagPart, messageOf, genuine}
+use Rattle.blockplan.proofs.Plans.{same-true, same-refl}
+
+module _ (m : Mode) (law : Lawful m) (header : List ℕ) where
+  -- ---- the parcel of a message
+
+  module _ (message : List ℕ) where
+    pub parcel-long : length (parcelOf m header message) ≡ length message + 32
+    unfolding parcelOf
+    parcel-long =
+        let tag = m .tag header message in
+        length-append (m .cipher tag message) tag ∙ ap₂ (λ (a b : ℕ). a + b) (law .cipher-long tag message) (law .tag-long header message)
+
+    pub parcel-bytes : Bytes message → Bytes (parcelOf m header message)
+    unfolding parcelOf
+    parcel-bytes h =
+        let tag = m .tag header message in
+        bytes-append (m .cipher tag message) tag (law .undo tag .forth-keeps message h) (law .tag-bytes header message)
+
+    parcel-cipher : cipherPart (parcelOf m header message) ≡ m .cipher (m .tag header message) message
+    unfolding cipherPart parcelOf
+    parcel-cipher =
+        let tag = m .tag header message in
+        take-at (m .cipher tag message) tag (length (parcelOf m header message) - 32) (omega (arith, parcel-long, law .cipher-long tag message))
+
+    pub parcel-tag : tagPart (parcelOf m header message) ≡ m .tag header message
+    unfolding tagPart parcelOf
+    parcel-tag =
+        let tag = m .tag header message in
+        drop-at (m .cipher tag message) tag (length (parcelOf m header message) - 32) (omega (arith, parcel-long, law .cipher-long tag message))
+
+    -- its message comes back
+    pub parcel-message : Bytes message → messageOf m (parcelOf m header message) ≡ message
+    unfolding messageOf
+    parcel-message h = ap₂ (m .plain) parcel-tag parcel-cipher ∙ law .undo (m .tag header message) .back-forth message h
+
+    -- and it is genuine
+    pub parcel-genuine : Bytes message → genuine m header (parcelOf m header message) ≡ true
+    unfolding genuine
+    parcel-genuine h = rw (parcel-message h, parcel-tag) (same-refl (m .tag header message))
+
+  -- ---- the message of a parcel
+
+  module _ (parcel : List ℕ) where
+    pub message-long : 32 ≤ length parcel → length (messageOf m parcel) ≡ length parcel - 32
+    unfolding messageOf cipherPart
+    message-long h = law .plain-long (tagPart parcel) (take (length parcel - 32) parcel) ∙ length-take-le (length parcel - 32) parcel (omega arith)
+
+    pub message-bytes : Bytes parcel → Bytes (messageOf m parcel)
+    unfolding messageOf cipherPart
+    message-bytes h = law .undo (tagPart parcel) .back-keeps (take (length parcel - 32) parcel) (bytes-take (length parcel - 32) parcel h)
+
+    -- a genuine parcel is that of its message
+    pub message-parcel : Bytes parcel → genuine m header parcel ≡ true → parcelOf m header (messageOf m parcel) ≡ parcel
+    unfolding genuine parcelOf messageOf tagPart cipherPart
+    message-parcel h e =
+        let n = length parcel - 32 in
+        rw (same-true _ _ e)
+        (ap (λ (c : List ℕ). c ++ drop n parcel) (law .undo (drop n parcel) .forth-back (take n parcel) (bytes-take n parcel h))
+        ∙ take-append-drop n parcel)
