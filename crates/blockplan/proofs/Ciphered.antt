@@ -8,6 +8,8 @@ use lib.ListN.{length, take, drop, length-append, length-drop, take-append-drop}
 use lib.Seq.{drop-at}
 use Rattle.words.specs.Sequence.{cat}
 use Rattle.words.specs.Block.{Block, Bytes, blockOf, bytesOf, xorBytes}
+use Rattle.words.specs.Undo.{Undo}
+use Rattle.words.proofs.Maps.{undo-flip}
 use Rattle.words.proofs.Lists.{length-cat, piece, pieces, cat-ext}
 use Rattle.words.proofs.Blocks.{length-bytesOf, bytes-bytesOf, length-xorBytes, bytes-xorBytes, xorBytes-cancel, bytes-append, bytes-cat, bytes-drop, block-blockOf, blockOf-bytesOf, bytesOf-blockOf}
 use Rattle.blockplan.specs.Plan.{whole, left, hasLeft, blockAt, ciphered}
@@ -97,25 +99,28 @@ parted s h =
     ∙ take-append-drop (128 * whole s) s
 
 -- what undoes each whole block undoes the whole
-pub ciphered-undo-below : (f h : ℕ → List ℕ → List ℕ) (stream : ℕ → List ℕ) (s : List ℕ) → Bytes s
-    → ((i : ℕ) → i < whole s → (b : List ℕ) → Block b → Block (f i b)) → ((i : ℕ) → i < whole s → (b : List ℕ) → Block b → h i (f i b) ≡ b)
-    → ciphered h stream (ciphered f stream s) ≡ s
-unfolding cipheredAt
-ciphered-undo-below f h stream s bytes keeps undo =
-    let c = ciphered f stream s in
-    ciphered-is h stream c
-    ∙ ap₂ (λ (a b : List ℕ). a ++ b)
-    (ap (cat (cipheredAt h stream c)) (whole-ciphered f stream s) ∙ cat-ext (cipheredAt h stream c) (λ i. bytesOf (blockAt s i)) (whole s) (λ i p. back i p))
-    (ap₂ (λ (l : List ℕ) (n : ℕ). xorBytes l (bytesOf (stream n))) (left-ciphered f stream s) (whole-ciphered f stream s)
-    ∙ xorBytes-cancel (left s) (bytesOf (stream (whole s))))
-    ∙ parted s bytes
-  where
-    back : (i : ℕ) → i < whole s → cipheredAt h stream (ciphered f stream s) i ≡ bytesOf (blockAt s i)
-    back i p =
-        ap (λ (b : List ℕ). bytesOf (h i b)) (blockAt-ciphered f stream s i p (keeps i p (blockAt s i) (block-blockAt s i bytes)))
-        ∙ ap bytesOf (undo i p (blockAt s i) (block-blockAt s i bytes))
+module _ (f h : ℕ → List ℕ → List ℕ) (stream : ℕ → List ℕ) (u : (i : ℕ) → Undo Block (f i) (h i)) (s : List ℕ) (bytes : Bytes s) where
+  back-at : (i : ℕ) → i < whole s → cipheredAt h stream (ciphered f stream s) i ≡ bytesOf (blockAt s i)
+  unfolding cipheredAt
+  back-at i p =
+      let b = block-blockAt s i bytes in
+      ap (λ (c : List ℕ). bytesOf (h i c)) (blockAt-ciphered f stream s i p (u i .forth-keeps (blockAt s i) b))
+      ∙ ap bytesOf (u i .back-forth (blockAt s i) b)
 
-pub ciphered-undo : (f h : ℕ → List ℕ → List ℕ) (stream : ℕ → List ℕ) (s : List ℕ) → Bytes s
-    → ((i : ℕ) (b : List ℕ) → Block b → Block (f i b)) → ((i : ℕ) (b : List ℕ) → Block b → h i (f i b) ≡ b)
-    → ciphered h stream (ciphered f stream s) ≡ s
-ciphered-undo f h stream s bytes keeps undo = ciphered-undo-below f h stream s bytes (λ i p. keeps i) (λ i p. undo i)
+  ciphered-back : ciphered h stream (ciphered f stream s) ≡ s
+  ciphered-back =
+      let c = ciphered f stream s in
+      ciphered-is h stream c
+      ∙ ap₂ (λ (a b : List ℕ). a ++ b)
+      (ap (cat (cipheredAt h stream c)) (whole-ciphered f stream s) ∙ cat-ext (cipheredAt h stream c) (λ i. bytesOf (blockAt s i)) (whole s) back-at)
+      (ap₂ (λ (l : List ℕ) (n : ℕ). xorBytes l (bytesOf (stream n))) (left-ciphered f stream s) (whole-ciphered f stream s)
+      ∙ xorBytes-cancel (left s) (bytesOf (stream (whole s))))
+      ∙ parted s bytes
+
+pub ciphered-undo : (f h : ℕ → List ℕ → List ℕ) (stream : ℕ → List ℕ) → ((i : ℕ) → Undo Block (f i) (h i)) → Undo Bytes (ciphered f stream) (ciphered h stream)
+ciphered-undo f h stream u = record {
+  forth-keeps = bytes-ciphered f stream;
+  back-keeps = bytes-ciphered h stream;
+  back-forth = ciphered-back f h stream u;
+  forth-back = ciphered-back h f stream (λ i. undo-flip (u i));
+}

@@ -1,3 +1,4 @@
 pub mod Ciphered
 pub mod Plans
+pub mod Tags
 pub mod Parcels

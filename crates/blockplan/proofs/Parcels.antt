@@ -1,14 +1,17 @@
 -- Laws of parcels, for every mode that is lawful: a message comes back from its parcel, and a genuine parcel is that of its message. Assumes nothing.
-use mathlib.Core.Path.{_≡_, ap, ap₂, _∙_}
-use mathlib.Core.Bool.{true}
-use mathlib.Core.List.{List, _++_}
+use mathlib.Core.Path.{_≡_, sym, ap, ap₂, _∙_}
+use mathlib.Core.Bool.{Bool, true, false, cond}
+use mathlib.Core.List.{List, _++_, append-assoc}
 use Prim.Native.Nat.{ℕ, _+_, _-_, _≤_}
 use native.Mathlib.Omega.{arith}
 use lib.ListN.{length, take, drop, length-append, take-append-drop}
 use lib.Seq.{take-at, drop-at, length-take-le}
+use borrow.Rule.Slice.PartMut.{putMid}
+use Rattle.words.specs.Sequence.{zeros}
 use Rattle.words.specs.Block.{Bytes}
+use Rattle.words.proofs.Lists.{fronted}
 use Rattle.words.proofs.Blocks.{bytes-append, bytes-take}
-use Rattle.blockplan.specs.Parcel.{Mode, Lawful, parcelOf, cipherPart, tagPart, messageOf, genuine}
+use Rattle.blockplan.specs.Parcel.{Mode, Lawful, parcelOf, cipherPart, tagPart, messageOf, genuine, opened}
 use Rattle.blockplan.proofs.Plans.{same-true, same-refl}
 
 module _ (m : Mode) (law : Lawful m) (header : List ℕ) where
@@ -39,6 +42,16 @@ module _ (m : Mode) (law : Lawful m) (header : List ℕ) where
         let tag = m .tag header message in
         drop-at (m .cipher tag message) tag (length (parcelOf m header message) - 32) (omega (arith, parcel-long, law .cipher-long tag message))
 
+    -- the ciphertext is in front, and the tag was written behind it
+    pub sealed-as : (old xs ys : List ℕ) → xs ≡ m .cipher (m .tag header message) message ++ drop (length message) old
+        → ys ≡ m .tag header message ++ drop 32 (take (length xs - length message) (drop (length message) xs))
+        → putMid (length message) (length xs - length message) xs ys ≡ parcelOf m header message ++ drop (length message + 32) old
+    unfolding parcelOf
+    sealed-as old xs ys e q =
+        let tag = m .tag header message in
+        fronted (length message) 32 (m .cipher tag message) tag old xs ys (law .cipher-long tag message) e q
+        ∙ sym (append-assoc (m .cipher tag message) tag (drop (length message + 32) old))
+
     -- its message comes back
     pub parcel-message : Bytes message → messageOf m (parcelOf m header message) ≡ message
     unfolding messageOf
@@ -68,3 +81,14 @@ module _ (m : Mode) (law : Lawful m) (header : List ℕ) where
         rw (same-true _ _ e)
         (ap (λ (c : List ℕ). c ++ drop n parcel) (law .undo (drop n parcel) .forth-back (take n parcel) (bytes-take n parcel h))
         ∙ take-append-drop n parcel)
+
+    -- the message was written, and then kept or cleared
+    pub opened-as : (old xs ys : List ℕ) (right : Bool) → 32 ≤ length parcel → xs ≡ messageOf m parcel ++ drop (length parcel - 32) old
+        → right ≡ genuine m header parcel → ys ≡ cond right xs (zeros (length parcel - 32) ++ drop (length parcel - 32) xs)
+        → (right, ys) ≡ opened m header parcel old
+    unfolding opened
+    opened-as old xs ys right h e r q = rw (q, ← r) (ap (λ (l : List ℕ). (right, l)) (chosen right))
+      where
+        chosen : (b : Bool) → cond b xs (zeros (length parcel - 32) ++ drop (length parcel - 32) xs) ≡ cond b (messageOf m parcel) (zeros (length parcel - 32)) ++ drop (length parcel - 32) old
+        chosen true = e
+        chosen false = rw (e, drop-at (messageOf m parcel) (drop (length parcel - 32) old) (length parcel - 32) (message-long h))

@@ -19,7 +19,8 @@ use Rattle.words.proofs.Xor.{xor-cancel-r}
 use Rattle.words.proofs.Lists.{length-tab, front}
 use Rattle.words.proofs.Blocks.{xor-block, zero-block, length-bytesOf}
 use Rattle.blockplan.specs.Compare.{differing}
-use Rattle.blockplan.specs.Plan.{whole, left, xorOver, tagBytes, same, opened}
+use Rattle.blockplan.specs.Plan.{whole, xorOver, tagBytes}
+use Rattle.blockplan.specs.Parcel.{same}
 
 -- ---- sums
 
@@ -130,14 +131,3 @@ pub same-refl : (a : List ℕ) → same a a ≡ true
 unfolding same
 same-refl [] = refl
 same-refl (x ∷ xs) = rw (eq-eqb x x refl, same-refl xs)
-
--- the answer and the output of opening, where n bytes of message were kept or cleared
-pub opened-as : (n : ℕ) (message expected tag old xs ys : List ℕ) (right : Bool) → length message ≡ n → xs ≡ message ++ drop n old
-    → right ≡ same expected tag → ys ≡ cond right xs (zeros n ++ drop n xs)
-    → (right, ys) ≡ opened message expected tag old
-unfolding opened
-opened-as n message expected tag old xs ys right ln e r q = rw (q, ← r, ln) (ap (λ (l : List ℕ). (right, l)) (chosen right))
-  where
-    chosen : (b : Bool) → cond b xs (zeros n ++ drop n xs) ≡ cond b message (zeros n) ++ drop n old
-    chosen true = e
-    chosen false = rw (e, drop-at message (drop n old) n ln)

@@ -1,13 +1,13 @@
 -- Parcels of a mode, and opening them (document 01, "Words, bytes, blocks" and "Block plan"). Assumes nothing.
 use mathlib.Core.Path.{_≡_}
-use mathlib.Core.Bool.{Bool, cond}
-use mathlib.Core.List.{List, _++_}
+use mathlib.Core.Bool.{Bool, true, false, cond, _&&_}
+use mathlib.Core.List.{List, [], _∷_, _++_}
 use Prim.Native.Nat.{ℕ, _-_}
+use lib.Dec.{eqb}
 use lib.ListN.{length, take, drop}
 use Rattle.words.specs.Sequence.{zeros}
 use Rattle.words.specs.Block.{Bytes}
 use Rattle.words.specs.Undo.{Undo}
-use Rattle.blockplan.specs.Plan.{same}
 
 -- a mode, over a round count and a start block: the tag of a header and a message, the ciphertext of a message under its tag, and back
 pub record Mode : Type 0 where
@@ -30,6 +30,13 @@ tagPart parcel = drop (length parcel - 32) parcel
 -- the message that a parcel holds if it is genuine
 unfoldable pub messageOf : Mode → List ℕ → List ℕ
 messageOf m parcel = m .plain (tagPart parcel) (cipherPart parcel)
+
+-- whether two lists agree in every byte and in length
+unfoldable pub same : List ℕ → List ℕ → Bool
+same [] [] = true
+same [] (y ∷ ys) = false
+same (x ∷ xs) [] = false
+same (x ∷ xs) (y ∷ ys) = eqb x y && same xs ys
 
 -- whether a parcel is genuine: its tag agrees in all 32 bytes with the tag of its message
 unfoldable pub genuine : Mode → List ℕ → List ℕ → Bool

@@ -1,10 +1,10 @@
 -- The parts of the block plan that both modes share (document 01, "Block plan"). Assumes nothing.
-use mathlib.Core.Bool.{Bool, true, false, cond, _&&_}
-use mathlib.Core.List.{List, [], _∷_, _++_}
-use Prim.Native.Nat.{ℕ, _-_, _*_, _/_}
-use lib.Dec.{ltb, eqb}
+use mathlib.Core.Bool.{Bool, cond}
+use mathlib.Core.List.{List, _++_}
+use Prim.Native.Nat.{ℕ, _*_, _/_}
+use lib.Dec.{ltb}
 use lib.ListN.{length, take, drop}
-use Rattle.words.specs.Sequence.{cat, fold, zeros}
+use Rattle.words.specs.Sequence.{cat, fold}
 use Rattle.words.specs.Block.{blockOf, bytesOf, xorBlock, xorBytes, zeroBlock}
 
 -- the number of whole blocks
@@ -38,23 +38,3 @@ ciphered f stream s = cat (λ i. bytesOf (f i (blockAt s i))) (whole s) ++ xorBy
 -- the first 32 bytes of a block
 unfoldable pub tagBytes : List ℕ → List ℕ
 tagBytes b = take 32 (bytesOf b)
-
--- whether two lists agree in every byte and in length
-unfoldable pub same : List ℕ → List ℕ → Bool
-same [] [] = true
-same [] (y ∷ ys) = false
-same (x ∷ xs) [] = false
-same (x ∷ xs) (y ∷ ys) = eqb x y && same xs ys
-
--- opening: whether all tag bytes agree, and the output, which holds the message where they do and zeros in its place where they differ
-unfoldable pub opened : List ℕ → List ℕ → List ℕ → List ℕ → Bool × List ℕ
-opened message expected tag out =
-    (same expected tag, cond (same expected tag) message (zeros (length message)) ++ drop (length message) out)
-
--- a parcel is the ciphertext and then the tag, its last 32 bytes: its ciphertext
-unfoldable pub cipherPart : List ℕ → List ℕ
-cipherPart parcel = take (length parcel - 32) parcel
-
--- its tag
-unfoldable pub tagPart : List ℕ → List ℕ
-tagPart parcel = drop (length parcel - 32) parcel

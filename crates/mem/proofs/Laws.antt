@@ -7,11 +7,12 @@ use lib.Dec.{lit<}
 use lib.ListN.{getD, length-append}
 use Rattle.words.specs.Sequence.{tab, times, zeros}
 use Rattle.words.specs.Block.{Block, Bytes, wordAt, blockOf, xorBlock}
+use Rattle.words.specs.Undo.{Undo}
 use Rattle.words.proofs.Lists.{length-tab, getD-tab}
 use Rattle.words.proofs.Blocks.{xor-block, xorBlock-cancel, below-tab, block-blockOf}
 use Rattle.words.proofs.Times.{times-keeps, times-commute}
-use Rattle.permutation.specs.Permutation.{perm, backPerm}
-use Rattle.permutation.proofs.Undone.{perm-block, backPerm-block, backPerm-perm, perm-backPerm}
+use Rattle.words.proofs.Maps.{undo-then}
+use Rattle.permutation.proofs.Undone.{perm-undo, perm-block}
 use Rattle.masks.specs.Steps.{alpha, beta, gamma}
 use Rattle.masks.proofs.Laws.{alpha-block, beta-block, gamma-block, alpha-beta, alpha-gamma}
 use Rattle.mem.specs.Mem.{startBlock, startOf, maskAt, encipher, decipher, E, D}
@@ -35,51 +36,24 @@ mask-alpha start b (suc i) j k =
     ∙ sym (times-commute Block gamma gamma-block alpha alpha-gamma k (times beta j one) (times-keeps Block beta beta-block j one one-block))
     ∙ ap alpha (mask-alpha start b i j k)
 
--- ---- P under a mask
-
-module _ (n : ℕ) (mask block : List ℕ) (m : Block mask) (b : Block block) where
-  pub encipher-block : Block (encipher n mask block)
-  unfolding encipher
-  encipher-block = xor-block (perm n (xorBlock block mask)) mask (perm-block n (xorBlock block mask) (xor-block block mask b m)) m
-
-  pub decipher-block : Block (decipher n mask block)
-  unfolding decipher
-  decipher-block = xor-block (backPerm n (xorBlock block mask)) mask (backPerm-block n (xorBlock block mask) (xor-block block mask b m)) m
-
-  pub decipher-encipher : decipher n mask (encipher n mask block) ≡ block
-  unfolding encipher decipher
-  decipher-encipher =
-      let inner = xor-block block mask b m in
-      ap (λ (x : List ℕ). xorBlock (backPerm n x) mask) (xorBlock-cancel (perm n (xorBlock block mask)) mask (perm-block n (xorBlock block mask) inner))
-      ∙ ap (λ (x : List ℕ). xorBlock x mask) (backPerm-perm n (xorBlock block mask) inner)
-      ∙ xorBlock-cancel block mask b
-
-  pub encipher-decipher : encipher n mask (decipher n mask block) ≡ block
-  unfolding encipher decipher
-  encipher-decipher =
-      let inner = xor-block block mask b m in
-      ap (λ (x : List ℕ). xorBlock (perm n x) mask) (xorBlock-cancel (backPerm n (xorBlock block mask)) mask (backPerm-block n (xorBlock block mask) inner))
-      ∙ ap (λ (x : List ℕ). xorBlock x mask) (perm-backPerm n (xorBlock block mask) inner)
-      ∙ xorBlock-cancel block mask b
-
 -- ---- E and D
 
-module _ (n : ℕ) (start block : List ℕ) (l : Block start) (b : Block block) (i j k : ℕ) where
-  pub E-block : Block (E n start i j k block)
-  unfolding E
-  E-block = encipher-block n (maskAt start i j k) block (mask-block start l i j k) b
+-- exclusive or with a mask undoes itself
+pub xor-undo : (mask : List ℕ) → Block mask → Undo Block (λ b. xorBlock b mask) (λ b. xorBlock b mask)
+xor-undo mask m = record {
+  forth-keeps = λ b h. xor-block b mask h m;
+  back-keeps = λ b h. xor-block b mask h m;
+  back-forth = λ b h. xorBlock-cancel b mask h;
+  forth-back = λ b h. xorBlock-cancel b mask h;
+}
 
-  pub D-block : Block (D n start i j k block)
-  unfolding D
-  D-block = decipher-block n (maskAt start i j k) block (mask-block start l i j k) b
+pub cipher-undo : (n : ℕ) (mask : List ℕ) → Block mask → Undo Block (encipher n mask) (decipher n mask)
+unfolding encipher decipher
+cipher-undo n mask m = undo-then (xor-undo mask m) (undo-then (perm-undo n) (xor-undo mask m))
 
-  pub D-E : D n start i j k (E n start i j k block) ≡ block
-  unfolding E D
-  D-E = decipher-encipher n (maskAt start i j k) block (mask-block start l i j k) b
-
-  pub E-D : E n start i j k (D n start i j k block) ≡ block
-  unfolding E D
-  E-D = encipher-decipher n (maskAt start i j k) block (mask-block start l i j k) b
+pub E-undo : (n : ℕ) (start : List ℕ) → Block start → (i j k : ℕ) → Undo Block (E n start i j k) (D n start i j k)
+unfolding E D
+E-undo n start b i j k = cipher-undo n (maskAt start i j k) (mask-block start b i j k)
 
 -- ---- the start
 

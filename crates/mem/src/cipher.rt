@@ -1,6 +1,6 @@
 // P and the back permutation under a mask.
-use permutation::permute::permute;
 use permutation::permute::back_permute;
+use permutation::permute::permute;
 use words::block::xor;
 ghost use mathlib.Core.Path.{_≡_};
 ghost use Rattle.mem.specs.Mem.{encipher as encipherOf, decipher as decipherOf};

@@ -1,4 +1,3 @@
 pub mod Absorbed
-pub mod Tags
 pub mod Streams
 pub mod Opened

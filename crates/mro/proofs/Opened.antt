@@ -1,14 +1,16 @@
--- The same stream twice gives the bytes back, whatever the start and the tag. Assumes nothing.
+-- MRO is lawful, whatever the start: its tag has 32 bytes, and the same stream twice gives the bytes back. Assumes nothing.
 use mathlib.Core.Path.{_≡_, sym, ap, ap₂, _∙_}
 use mathlib.Core.List.{List, _++_}
 use Prim.Native.Nat.{ℕ}
-use lib.ListN.{length}
 use Rattle.words.specs.Block.{Block, Bytes, blockOf, bytesOf, xorBlock, xorBytes}
 use Rattle.words.proofs.Lists.{cat-ext}
-use Rattle.words.proofs.Blocks.{length-bytesOf, bytes-bytesOf, bytes-are, bytesOf-xor, block-blockOf, xor-block, xorBlock-cancel}
+use Rattle.words.proofs.Blocks.{length-bytesOf, bytes-bytesOf, bytes-are, bytesOf-xor, block-blockOf}
+use Rattle.mem.proofs.Laws.{xor-undo}
 use Rattle.blockplan.specs.Plan.{whole, left, blockAt, ciphered}
+use Rattle.blockplan.specs.Parcel.{Lawful}
+use Rattle.blockplan.proofs.Tags.{length-tagBytes, bytes-tagBytes}
 use Rattle.blockplan.proofs.Ciphered.{length-ciphered, bytes-ciphered, ciphered-undo}
-use Rattle.mro.specs.Mro.{mroStream, streamed, mroCipher}
+use Rattle.mro.specs.Mro.{mroTag, mroStream, streamed, mroCipher, mroMode}
 
 -- a block xored with block i of a stream
 unfoldable xored : (ℕ → List ℕ) → ℕ → List ℕ → List ℕ
@@ -37,23 +39,23 @@ xored-formed k s =
     (cat-ext (λ i. bytesOf (xored k i (blockAt s i))) (λ i. bytesOf (xored (formed k) i (blockAt s i))) (whole s) (λ i h. xored-bytes k i (blockAt s i)))
     (sym (formed-bytes k (whole s)))
 
-xored-undo : (k : ℕ → List ℕ) (s : List ℕ) → Bytes s → ciphered (xored k) k (ciphered (xored k) k s) ≡ s
+xored-back : (k : ℕ → List ℕ) (s : List ℕ) → Bytes s → ciphered (xored k) k (ciphered (xored k) k s) ≡ s
 unfolding xored
-xored-undo k s h =
+xored-back k s h =
     xored-formed k (ciphered (xored k) k s) ∙ ap (ciphered (xored (formed k)) (formed k)) (xored-formed k s)
-    ∙ ciphered-undo (xored (formed k)) (xored (formed k)) (formed k) s h
-    (λ i b hb. xor-block b (formed k i) hb (formed-block k i))
-    (λ i b hb. xorBlock-cancel b (formed k i) hb)
+    ∙ ciphered-undo (xored (formed k)) (xored (formed k)) (formed k) (λ i. xor-undo (formed k i) (formed-block k i)) .back-forth s h
 
-module _ (rounds : ℕ) (start tag s : List ℕ) where
-  pub length-mroCipher : length (mroCipher rounds start tag s) ≡ length s
-  unfolding mroCipher
-  length-mroCipher = length-ciphered (streamed rounds start tag) (mroStream rounds start tag) s
-
-  pub bytes-mroCipher : Bytes s → Bytes (mroCipher rounds start tag s)
-  unfolding mroCipher
-  bytes-mroCipher h = bytes-ciphered (streamed rounds start tag) (mroStream rounds start tag) s h
-
-  pub mroCipher-undo : Bytes s → mroCipher rounds start tag (mroCipher rounds start tag s) ≡ s
-  unfolding mroCipher streamed xored
-  mroCipher-undo h = xored-undo (mroStream rounds start tag) s h
+pub mro-lawful : (rounds : ℕ) (start : List ℕ) → Lawful (mroMode rounds start)
+unfolding mroMode mroTag mroCipher streamed xored
+mro-lawful rounds start = record {
+  tag-long = λ header message. length-tagBytes _;
+  tag-bytes = λ header message. bytes-tagBytes _;
+  cipher-long = λ tag s. length-ciphered (streamed rounds start tag) (mroStream rounds start tag) s;
+  plain-long = λ tag s. length-ciphered (streamed rounds start tag) (mroStream rounds start tag) s;
+  undo = λ tag. record {
+    forth-keeps = bytes-ciphered (streamed rounds start tag) (mroStream rounds start tag);
+    back-keeps = bytes-ciphered (streamed rounds start tag) (mroStream rounds start tag);
+    back-forth = xored-back (mroStream rounds start tag);
+    forth-back = xored-back (mroStream rounds start tag);
+  };
+}

@@ -1,19 +1,27 @@
 -- Laws of bytes xored with the stream. Assumes nothing.
 use mathlib.Core.Path.{_≡_, refl, sym, ap, _∙_}
-use mathlib.Core.List.{List, [], _++_, append-assoc, append-nil}
+use mathlib.Core.List.{List, [], _∷_, _++_, append-assoc, append-nil}
 use Prim.Native.Nat.{ℕ, _+_, _-_, _*_}
 use native.Mathlib.Omega.{arith}
-use lib.ListN.{length, take, drop, drop-of-length-le}
+use lib.Dec.{lit<}
+use lib.ListN.{length, getD, take, drop, drop-of-length-le}
 use borrow.Rule.Slice.PartMut.{putMid}
-use Rattle.words.specs.Sequence.{cat, tab, times}
-use Rattle.words.specs.Block.{bytesOf, xorBlock, xorBytes}
+use Rattle.words.specs.Sequence.{cat, tab, times, zeros}
+use Rattle.words.specs.Block.{Block, bytesOf, xorBlock, xorBytes}
 use Rattle.words.proofs.Lists.{length-cat, fronted}
 use Rattle.words.proofs.Blocks.{length-bytesOf}
 use Rattle.masks.specs.Steps.{gamma}
 use Rattle.mem.specs.Mem.{maskAt, encipher, E}
-use Rattle.blockplan.specs.Plan.{whole, left, blockAt, ciphered}
+use Rattle.blockplan.specs.Plan.{whole, left, blockAt, ciphered, tagBytes}
+use Rattle.blockplan.proofs.Tags.{word-tag}
 use Rattle.blockplan.proofs.Ciphered.{length-left, whole-le}
 use Rattle.mro.specs.Mro.{counter, mroStream, streamed, mroCipher}
+
+-- the counter's block, word by word
+pub counter-words : (b : List ℕ) → Block b → (i : ℕ)
+    → counter (tagBytes b) i ≡ getD b 0 0 ∷ getD b 1 0 ∷ getD b 2 0 ∷ getD b 3 0 ∷ 0 ∷ 0 ∷ 0 ∷ 0 ∷ 0 ∷ 0 ∷ 0 ∷ 0 ∷ 0 ∷ 0 ∷ 0 ∷ i ∷ []
+unfolding counter zeros tab
+counter-words b h i = rw (word-tag b h 0 (lit< tt), word-tag b h 1 (lit< tt), word-tag b h 2 (lit< tt), word-tag b h 3 (lit< tt))
 
 -- block i of s as it is written, the stream's mask given
 unfoldable pub writtenAt : ℕ → List ℕ → List ℕ → List ℕ → ℕ → List ℕ

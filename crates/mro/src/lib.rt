@@ -12,13 +12,13 @@ ghost use mathlib.Core.Path.{_≡_};
 ghost use mathlib.Core.List.{_++_};
 ghost use Prim.Native.Nat.{_+_, _≤_};
 ghost use lib.ListN.{length, drop};
-ghost use Rattle.blockplan.specs.Plan.{opened, cipherPart, tagPart};
-ghost use Rattle.mro.specs.Mro.{mroTag, mroCipher};
+ghost use Rattle.blockplan.specs.Parcel.{parcelOf, opened};
+ghost use Rattle.mro.specs.Mro.{mroMode};
 
 // The ciphertext, then the tag, to the front of the output.
 pub fn seal(start: [u64; 16], rounds: u32, header: &[u8], message: &[u8], out: &mut [u8])
     requires { ⌜ length (now message) + 32 ≤ length (now out) ⌝ }
-    ensures { λ _. ⌜ now (out .exit) ≡ mroCipher rounds start (mroTag rounds start (now (header .entry)) (now (message .entry))) (now (message .entry)) ++ (mroTag rounds start (now (header .entry)) (now (message .entry)) ++ drop (length (now (message .entry)) + 32) (now (out .entry))) ⌝ }
+    ensures { λ _. ⌜ now (out .exit) ≡ parcelOf (mroMode rounds start) (now (header .entry)) (now (message .entry)) ++ drop (length (now (message .entry)) + 32) (now (out .entry)) ⌝ }
 {
     let n = message.len();
     let tag = tag_block(start, rounds, header, message);
@@ -29,7 +29,7 @@ pub fn seal(start: [u64; 16], rounds: u32, header: &[u8], message: &[u8], out: &
 // The message to the front of the output where the parcel's tag is the message's, else zeros there.
 pub fn open(start: [u64; 16], rounds: u32, header: &[u8], parcel: &[u8], out: &mut [u8]) -> bool
     requires { ⌜ (32 ≤ length (now parcel)) × (length (now parcel) ≤ length (now out) + 32) ⌝ }
-    ensures { λ r. ⌜ (r, now (out .exit)) ≡ opened (mroCipher rounds start (tagPart (now (parcel .entry))) (cipherPart (now (parcel .entry)))) (mroTag rounds start (now (header .entry)) (mroCipher rounds start (tagPart (now (parcel .entry))) (cipherPart (now (parcel .entry))))) (tagPart (now (parcel .entry))) (now (out .entry)) ⌝ }
+    ensures { λ r. ⌜ (r, now (out .exit)) ≡ opened (mroMode rounds start) (now (header .entry)) (now (parcel .entry)) (now (out .entry)) ⌝ }
 {
     let n = parcel.len() - 32;
     let tag = load_tag(&parcel[n..]);

@@ -1,21 +1,19 @@
--- Opening undoes sealing, and sealing undoes opening, byte for byte. Assumes nothing.
-use mathlib.Core.Path.{_≡_}
+-- OPP is lawful: its tag has 32 bytes, its ciphertext is as long as the message, and opening and sealing undo each other. Assumes nothing.
 use mathlib.Core.List.{List}
 use Prim.Native.Nat.{ℕ}
-use Rattle.words.specs.Block.{Block, Bytes}
-use Rattle.mem.proofs.Laws.{E-block, D-block, D-E, E-D}
-use Rattle.blockplan.proofs.Ciphered.{ciphered-undo}
-use Rattle.opp.specs.Opp.{sealAt, openAt, oppStream, oppCipher, oppPlain}
+use Rattle.words.specs.Block.{Block}
+use Rattle.mem.proofs.Laws.{E-undo}
+use Rattle.blockplan.specs.Parcel.{Lawful}
+use Rattle.blockplan.proofs.Tags.{length-tagBytes, bytes-tagBytes}
+use Rattle.blockplan.proofs.Ciphered.{length-ciphered, ciphered-undo}
+use Rattle.opp.specs.Opp.{oppTag, sealAt, openAt, oppStream, oppCipher, oppPlain, oppMode}
 
-module _ (rounds : ℕ) (start : List ℕ) (l : Block start) where
-  pub plain-cipher : (m : List ℕ) → Bytes m → oppPlain rounds start (oppCipher rounds start m) ≡ m
-  unfolding oppPlain oppCipher sealAt openAt
-  plain-cipher m h =
-      ciphered-undo (sealAt rounds start) (openAt rounds start) (oppStream rounds start) m h
-      (λ i b p. E-block rounds start b l p i 0 1) (λ i b p. D-E rounds start b l p i 0 1)
-
-  pub cipher-plain : (c : List ℕ) → Bytes c → oppCipher rounds start (oppPlain rounds start c) ≡ c
-  unfolding oppPlain oppCipher sealAt openAt
-  cipher-plain c h =
-      ciphered-undo (openAt rounds start) (sealAt rounds start) (oppStream rounds start) c h
-      (λ i b p. D-block rounds start b l p i 0 1) (λ i b p. E-D rounds start b l p i 0 1)
+pub opp-lawful : (rounds : ℕ) (start : List ℕ) → Block start → Lawful (oppMode rounds start)
+unfolding oppMode oppTag oppCipher oppPlain sealAt openAt
+opp-lawful rounds start b = record {
+  tag-long = λ header message. length-tagBytes _;
+  tag-bytes = λ header message. bytes-tagBytes _;
+  cipher-long = λ tag message. length-ciphered (sealAt rounds start) (oppStream rounds start) message;
+  plain-long = λ tag cipher. length-ciphered (openAt rounds start) (oppStream rounds start) cipher;
+  undo = λ tag. ciphered-undo (sealAt rounds start) (openAt rounds start) (oppStream rounds start) (λ i. E-undo rounds start b i 0 1);
+}

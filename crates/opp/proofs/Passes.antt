@@ -11,10 +11,10 @@ use Rattle.words.specs.Block.{Block, Bytes, bytesOf, xorBlock, xorBytes, zeroBl
 use Rattle.words.proofs.Lists.{cat-ext, fronted}
 use Rattle.masks.specs.Steps.{alpha, beta, gamma}
 use Rattle.mem.specs.Mem.{maskAt, encipher, E, D}
-use Rattle.mem.proofs.Laws.{mask-alpha, D-block}
+use Rattle.mem.proofs.Laws.{mask-alpha, E-undo}
 use Rattle.blockplan.specs.Plan.{whole, left, hasLeft, blockAt, xorOver, xorIf, ciphered, tagBytes}
 use Rattle.blockplan.proofs.Plans.{xorOver-ext}
-use Rattle.blockplan.proofs.Ciphered.{whole-le, length-left, length-ciphered, whole-ciphered, left-ciphered, hasLeft-ciphered, blockAt-ciphered, block-blockAt}
+use Rattle.blockplan.proofs.Ciphered.{whole-le, length-left, whole-ciphered, left-ciphered, hasLeft-ciphered, blockAt-ciphered, block-blockAt}
 use Rattle.opp.specs.Opp.{padded, sealAt, openAt, oppStream, oppCipher, oppPlain, oppSum, oppCheck, oppTag}
 use Rattle.opp.proofs.Steps.{beta-on}
 use Rattle.opp.proofs.Sums.{no-left, some-left, left-none}
@@ -55,7 +55,7 @@ module _ (rounds : ℕ) (start s : List ℕ) (l : Block start) where
     opened-at : (i : ℕ) → i < whole s → blockAt (oppPlain rounds start s) i ≡ plainAt true rounds (gamma start) s i
     unfolding oppPlain plainAt openAt
     opened-at i p =
-        blockAt-ciphered (openAt rounds start) (oppStream rounds start) s i p (D-block rounds start (blockAt s i) l (block-blockAt s i h) i 0 1)
+        blockAt-ciphered (openAt rounds start) (oppStream rounds start) s i p (E-undo rounds start l i 0 1 .back-keeps (blockAt s i) (block-blockAt s i h))
         ∙ sym (transformed-is true i)
 
     -- Check over the message, from what the pass had in hand
@@ -137,8 +137,3 @@ module _ (rounds : ℕ) (start s : List ℕ) (l : Block start) where
         let at : beta (beta mask) ≡ maskAt start (whole (plain opening rounds start s)) (cond (hasLeft (plain opening rounds start s)) 3 2) 1 =
         rw (m, whole-plain opening, hasLeft-plain opening) (two-on (hasLeft s)) in
         ap tagBytes (e ∙ ap₂ (λ (n b : List ℕ). xorBlock (oppSum rounds start header) (encipher rounds n b)) at c)
-
-pub length-passed : (opening : Bool) (rounds : ℕ) (start s : List ℕ) → length (passed opening rounds start s) ≡ length s
-unfolding passed oppPlain oppCipher
-length-passed true rounds start s = length-ciphered (openAt rounds start) (oppStream rounds start) s
-length-passed false rounds start s = length-ciphered (sealAt rounds start) (oppStream rounds start) s

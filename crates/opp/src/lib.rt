@@ -9,8 +9,8 @@ ghost use mathlib.Core.Path.{_≡_};
 ghost use mathlib.Core.List.{_++_};
 ghost use Prim.Native.Nat.{_+_, _≤_};
 ghost use lib.ListN.{length, drop};
-ghost use Rattle.blockplan.specs.Plan.{opened, cipherPart, tagPart};
-ghost use Rattle.opp.specs.Opp.{oppTag, oppCipher, oppPlain};
+ghost use Rattle.blockplan.specs.Parcel.{parcelOf, opened};
+ghost use Rattle.opp.specs.Opp.{oppMode};
 
 mod message;
 mod tag;
@@ -18,7 +18,7 @@ mod tag;
 // The parcel to the front of the output: the ciphertext and then the tag.
 pub fn seal(start: [u64; 16], rounds: u32, header: &[u8], message: &[u8], out: &mut [u8])
     requires { ⌜ length (now message) + 32 ≤ length (now out) ⌝ }
-    ensures { λ _. ⌜ now (out .exit) ≡ oppCipher rounds start (now (message .entry)) ++ (oppTag rounds start (now (header .entry)) (now (message .entry)) ++ drop (length (now (message .entry)) + 32) (now (out .entry))) ⌝ }
+    ensures { λ _. ⌜ now (out .exit) ≡ parcelOf (oppMode rounds start) (now (header .entry)) (now (message .entry)) ++ drop (length (now (message .entry)) + 32) (now (out .entry)) ⌝ }
 {
     let passed = pass(start, rounds, message, false, out);
     let at = message.len();
@@ -28,7 +28,7 @@ pub fn seal(start: [u64; 16], rounds: u32, header: &[u8], message: &[u8], out: &
 // The message to the front of the output where the tag is right, and zeros where it is not.
 pub fn open(start: [u64; 16], rounds: u32, header: &[u8], parcel: &[u8], out: &mut [u8]) -> bool
     requires { ⌜ (32 ≤ length (now parcel)) × (length (now parcel) ≤ length (now out) + 32) ⌝ }
-    ensures { λ r. ⌜ (r, now (out .exit)) ≡ opened (oppPlain rounds start (cipherPart (now (parcel .entry)))) (oppTag rounds start (now (header .entry)) (oppPlain rounds start (cipherPart (now (parcel .entry))))) (tagPart (now (parcel .entry))) (now (out .entry)) ⌝ }
+    ensures { λ r. ⌜ (r, now (out .exit)) ≡ opened (oppMode rounds start) (now (header .entry)) (now (parcel .entry)) (now (out .entry)) ⌝ }
 {
     let n = parcel.len() - 32;
     let passed = pass(start, rounds, &parcel[..n], true, out);

@@ -10,11 +10,13 @@ use denote.Ref.{now}
 use Rattle.words.specs.Block.{Bytes}
 use Rattle.words.proofs.Lists.{tailPart}
 use Rattle.words.proofs.Blocks.{bytes-drop}
-use Rattle.blockplan.specs.Plan.{tagBytes, same, cipherPart, tagPart}
-use Rattle.mro.specs.Mro.{mroTag, mroCipher}
-use Rattle.blockplan.proofs.Plans.{judged, opened-as}
-use Rattle.mro.proofs.Opened.{length-mroCipher}
-use Rattle.mro.proofs.Tags.{tag-of-block}
+use Rattle.blockplan.specs.Plan.{tagBytes}
+use Rattle.blockplan.specs.Parcel.{same, messageOf, genuine, cipherPart, tagPart}
+use Rattle.mro.specs.Mro.{mroTag, mroMode}
+use Rattle.blockplan.proofs.Plans.{judged}
+use Rattle.blockplan.proofs.Parcels.{message-long, opened-as}
+use Rattle.mro.proofs.Opened.{mro-lawful}
+use Rattle.blockplan.proofs.Tags.{tag-of-block}
 use borrow.Author.Needs.{needs}
 use Rattle.mro.proofs.open.Statement.{statement}
 use Rattle.mro.proofs.open.Tie as tie
@@ -68,7 +70,7 @@ same-length : tie.Need-same-length
 same-length c = search needs
 
 returns : tie.Need-returns
-unfolding mroTag cipherPart tagPart
+unfolding mroMode mroTag genuine messageOf cipherPart tagPart
 returns c =
     let start = c .before .before .before .before .before .before .before .before .before .before .before .before .before .before .before .before .before .before in
     let rounds = start .args .rounds in
@@ -79,18 +81,20 @@ returns c =
     let load = c .before .before .before .before .before .before .before .before .before .before .before .before .before .load-tag in
     let stream = c .before .before .before .before .before .before .before .before .before .before .xor-stream in
     let out = stream .last .1 .1 .1 .1 .0 in
-    let message = mroCipher rounds first (tagPart parcel) (cipherPart parcel) in
+    let mode = mroMode rounds first in
+    let message = messageOf mode parcel in
     let all : Bytes parcel = record { bytes = λ i. c .before .before .before .before .before .before .before .before .before .before .before .before .before .before .before .before .shared-slice-known2 .given i .fits } in
     let part = rw (tailPart n parcel) at (load .ensures) in
     let exact : length (tagPart parcel) ≡ 32 = simp length-drop (omega arith) in
     let tag : tagBytes (load .result) ≡ tagPart parcel = ap tagBytes part ∙ tag-of-block (tagPart parcel) (bytes-drop n parcel all) exact in
     let short : length (take n parcel) ≡ n = length-take-le n parcel (omega arith) in
-    let long : length message ≡ n = length-mroCipher rounds first (tagPart parcel) (cipherPart parcel) ∙ short in
+    let law = mro-lawful rounds first in
+    let long : length message ≡ n = message-long mode law (now (start .args .header)) parcel (omega arith) in
     let streamed : out ≡ message ++ drop n old = rw (tag, short) at (stream .ensures) in
     let front : take n out ≡ message = ap (take n) streamed ∙ take-at message (drop n old) n long in
     let tag-block = c .before .before .before .before .before .before .tag-block in
     let expected : tagBytes (tag-block .result) ≡ mroTag rounds first (now (start .args .header)) message = rw (tag-block .ensures, front) in
-    opened-as n message (mroTag rounds first (now (start .args .header)) message) (tagPart parcel) old out (c .before .before .keep .last .0) (eqb (c .before .before .before .before .difference .result) 0) long streamed
+    opened-as mode law (now (start .args .header)) parcel old out _ (eqb (c .before .before .before .before .difference .result) 0) (omega arith) streamed
     (judged _ (tagPart parcel) _ exact (rw (tailPart n parcel) at (c .before .before .before .before .difference .ensures)) ∙ ap (λ (x : List ℕ). same x (tagPart parcel)) expected)
     (c .before .before .keep .ensures)
 

@@ -1,11 +1,11 @@
 -- The ciphertext written to the front, the tag behind it. Assumes nothing.
 use native.Mathlib.Omega.{arith}
-use lib.ListN.{length, length-drop}
+use lib.ListN.{length-drop}
 use denote.Ref.{now}
-use Rattle.words.proofs.Lists.{tailPart, fronted}
-use Rattle.blockplan.specs.Plan.{tagBytes}
-use Rattle.mro.specs.Mro.{mroTag, mroCipher}
-use Rattle.mro.proofs.Opened.{length-mroCipher}
+use Rattle.words.proofs.Lists.{tailPart}
+use Rattle.blockplan.proofs.Parcels.{sealed-as}
+use Rattle.mro.specs.Mro.{mroTag, mroMode}
+use Rattle.mro.proofs.Opened.{mro-lawful}
 use borrow.Author.Needs.{needs}
 use Rattle.mro.proofs.seal.Statement.{statement}
 use Rattle.mro.proofs.seal.Tie as tie
@@ -32,18 +32,14 @@ same-length : tie.Need-same-length
 same-length c = search needs
 
 returns : tie.Need-returns
-unfolding mroTag
+unfolding mroMode mroTag
 returns c =
     let start = c .before .before .before .before .before .before .before .before .before .before .before .before in
     let tag = c .before .before .before .before .before .before .before .before .tag-block in
     let m = now (start .args .message) in
-    let stream = c .before .before .before .before .before .before .xor-stream in
-    let cipher = mroCipher (start .args .rounds) (start .args .start) (tagBytes (tag .result)) m in
-    rw (tag .ensures)
-    at (fronted (length m) 32 cipher (tagBytes (tag .result)) (now (start .args .out)) (stream .last .1 .1 .1 .1 .0) (c .before .before .store-tag .last .1 .0)
-    (length-mroCipher (start .args .rounds) (start .args .start) (tagBytes (tag .result)) m)
-    (stream .ensures)
-    (c .before .before .store-tag .ensures))
+    sealed-as (mroMode (start .args .rounds) (start .args .start)) (mro-lawful (start .args .rounds) (start .args .start)) (now (start .args .header)) m (now (start .args .out)) _ _
+    (rw (tag .ensures) at (c .before .before .before .before .before .before .xor-stream .ensures))
+    (rw (tag .ensures) at (c .before .before .store-tag .ensures))
 
 pub seal-spec : {M : Type 1} → statement M
 seal-spec =

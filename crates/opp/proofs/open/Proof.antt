@@ -11,11 +11,13 @@ use Rattle.words.specs.Block.{Block, Bytes}
 use Rattle.words.proofs.Lists.{tailPart}
 use Rattle.words.proofs.Blocks.{bytes-take}
 use Rattle.masks.proofs.Arrays.{array-block}
-use Rattle.blockplan.specs.Plan.{cipherPart, tagPart}
-use Rattle.opp.specs.Opp.{oppPlain}
+use Rattle.blockplan.specs.Parcel.{messageOf, genuine, cipherPart, tagPart}
+use Rattle.opp.specs.Opp.{oppMode}
 use Rattle.opp.specs.Pass.{passed, plain}
-use Rattle.blockplan.proofs.Plans.{judged, opened-as}
-use Rattle.opp.proofs.Passes.{tag-is, length-passed}
+use Rattle.blockplan.proofs.Plans.{judged}
+use Rattle.blockplan.proofs.Parcels.{opened-as}
+use Rattle.opp.proofs.Passes.{tag-is}
+use Rattle.opp.proofs.Opened.{opp-lawful}
 use borrow.Author.Needs.{needs}
 use Rattle.opp.proofs.open.Statement.{statement}
 use Rattle.opp.proofs.open.Tie as tie
@@ -51,7 +53,7 @@ same-length : tie.Need-same-length
 same-length c = search needs
 
 returns : tie.Need-returns
-unfolding passed plain cipherPart tagPart
+unfolding passed plain oppMode genuine messageOf cipherPart tagPart
 returns c =
     let start = c .before .before .before .before .before .before .before .before .before .before .before .before .before .before .before in
     let a = start .args in
@@ -66,8 +68,8 @@ returns c =
     let compared = rw (tailPart n (now (a .parcel))) at (c .before .before .before .before .difference .ensures) in
     let right = rw tag at (judged _ (tagPart (now (a .parcel))) _ exact compared) in
     let long : length s ≡ n = length-take-le n (now (a .parcel)) (omega arith) in
-    opened-as n (oppPlain (a .rounds) (a .start) s) _ (tagPart (now (a .parcel))) (now (a .out)) _ _ (eqb (c .before .before .before .before .difference .result) 0)
-    (length-passed true (a .rounds) (a .start) s ∙ long) (rw long at (pass .0)) right (c .before .before .keep .ensures)
+    opened-as (oppMode (a .rounds) (a .start)) (opp-lawful (a .rounds) (a .start) block) (now (a .header)) (now (a .parcel)) (now (a .out)) _ _
+    (eqb (c .before .before .before .before .difference .result) 0) (omega arith) (rw long at (pass .0)) right (c .before .before .keep .ensures)
 
 pub open-spec : {M : Type 1} → statement M
 open-spec =

@@ -1,13 +1,13 @@
 -- The ciphertext, and behind it the tag. Assumes nothing.
-use lib.ListN.{length}
 use denote.Ref.{now}
 use mathlib.Core.Bool.{false}
 use Rattle.words.specs.Block.{Block, Bytes}
 use Rattle.masks.proofs.Arrays.{array-block}
-use Rattle.opp.specs.Opp.{oppCipher, oppTag}
+use Rattle.blockplan.proofs.Parcels.{sealed-as}
+use Rattle.opp.specs.Opp.{oppMode}
 use Rattle.opp.specs.Pass.{passed, plain}
-use Rattle.words.proofs.Lists.{fronted}
-use Rattle.opp.proofs.Passes.{tag-is, length-passed}
+use Rattle.opp.proofs.Passes.{tag-is}
+use Rattle.opp.proofs.Opened.{opp-lawful}
 use borrow.Author.Needs.{needs}
 use Rattle.opp.proofs.seal.Statement.{statement}
 use Rattle.opp.proofs.seal.Tie as tie
@@ -34,7 +34,7 @@ same-length : tie.Need-same-length
 same-length c = search needs
 
 returns : tie.Need-returns
-unfolding passed plain
+unfolding passed plain oppMode
 returns c =
     let start = c .before .before .before .before .before .before .before .before .before .before .before .before in
     let a = start .args in
@@ -43,8 +43,7 @@ returns c =
     let bytes : Bytes m = record { bytes = λ i. c .before .before .before .before .before .before .before .before .before .before .shared-slice-known2 .given i .fits } in
     let pass = c .before .before .before .before .before .before .before .pass .ensures in
     let tag = tag-is (a .rounds) (a .start) m block bytes false (now (a .header)) _ _ _ (pass .1 .1) (pass .1 .0) (c .before .before .before .before .tag-block .ensures) in
-    fronted (length m) 32 (oppCipher (a .rounds) (a .start) m) (oppTag (a .rounds) (a .start) (now (a .header)) m) (now (a .out)) _ _
-    (length-passed false (a .rounds) (a .start) m) (pass .0) (rw tag at (c .before .before .store-tag .ensures))
+    sealed-as (oppMode (a .rounds) (a .start)) (opp-lawful (a .rounds) (a .start) block) (now (a .header)) m (now (a .out)) _ _ (pass .0) (rw tag at (c .before .before .store-tag .ensures))
 
 pub seal-spec : {M : Type 1} → statement M
 seal-spec =

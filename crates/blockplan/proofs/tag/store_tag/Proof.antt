@@ -1,15 +1,14 @@
 -- The loop's invariant: the bytes of the first i words are in, the others are as they were. Assumes nothing.
-use mathlib.Core.Path.{_≡_, refl, sym, ap, _∙_}
-use mathlib.Core.List.{List, _++_}
-use Prim.Native.Nat.{ℕ, _+_, _*_, _-_, _≤_}
+use mathlib.Core.Path.{_≡_, refl, _∙_}
+use mathlib.Core.List.{_++_}
+use Prim.Native.Nat.{_*_, _-_, _≤_}
 use native.Mathlib.Omega.{arith}
 use lib.ListN.{length, drop, length-drop}
-use denote.Ref.{now}
 use Rattle.words.specs.Sequence.{cat}
-use Rattle.words.specs.Block.{wordBytes, bytesOf}
-use Rattle.words.proofs.Lists.{appended, tailPart, take-cat}
+use Rattle.words.specs.Block.{wordBytes}
+use Rattle.words.proofs.Lists.{appended, tailPart}
 use Rattle.words.proofs.Blocks.{length-wordBytes}
-use Rattle.blockplan.specs.Plan.{tagBytes}
+use Rattle.blockplan.proofs.Tags.{tag-is}
 use borrow.Author.Needs.{needs}
 use Rattle.blockplan.proofs.tag.store_tag.Statement.{statement}
 use Rattle.blockplan.proofs.tag.store_tag.Tie as tie
@@ -66,11 +65,9 @@ same-length : tie.Need-same-length Inv-loop μ-loop
 same-length c = search needs
 
 returns : tie.Need-returns Inv-loop μ-loop
-unfolding tagBytes bytesOf
 returns c =
     let e : c .before .loop .i ≡ 4 = omega arith in
-    let b = c .before .before .before .args .t1 in
-    rw e at (c .before .loop .inv .1 .1) ∙ ap (λ (l : List ℕ). l ++ drop 32 (now (c .before .before .before .args .out))) (sym (take-cat (wordBytes b) 8 16 4 (length-wordBytes b) (omega arith)))
+    rw (tag-is (c .before .before .before .args .t1)) (rw e at (c .before .loop .inv .1 .1))
 
 pub store-tag-spec : {M : Type 1} → statement M
 store-tag-spec =

@@ -3,7 +3,7 @@ use mathlib.Core.Path.{sym}
 use Rattle.words.specs.Sequence.{tab, zeros}
 use Rattle.words.specs.Block.{wordAt}
 use Rattle.words.proofs.Lists.{tailPart}
-use Rattle.mro.proofs.Tags.{block-of-tag}
+use Rattle.blockplan.proofs.Tags.{block-of-tag}
 use denote.Ref.{now}
 use borrow.Author.Needs.{needs}
 use Rattle.mro.proofs.stream.load_tag.Statement.{statement}

@@ -1,17 +1,24 @@
--- Laws of the tag's bytes and of the four words that they stand for. Assumes nothing.
+-- Laws of a tag's bytes, the first 32 of a block, and of the four words that they stand for. Assumes nothing.
 use mathlib.Core.Path.{_≡_, sym, ap, _∙_, subst}
 use mathlib.Core.List.{List, [], _∷_, _++_, append-nil}
 use Prim.Native.Nat.{ℕ, _*_, _<_, _≤_}
 use native.Mathlib.Omega.{arith}
-use lib.Dec.{T, leb, lit<, lit≤}
+use lib.Dec.{T, leb, lit≤}
 use lib.ListN.{length, getD, take, drop, length-take, length-drop, List·getD-append, drop-of-length-le}
-use lib.Seq.{take-all}
+use lib.Seq.{take-all, length-take-le}
 use Rattle.words.specs.Sequence.{tab, cat, zeros}
 use Rattle.words.specs.Block.{Block, Bytes, le, lowBytes, wordAt, wordBytes, blockOf, bytesOf}
 use Rattle.words.proofs.Lists.{length-tab, getD-tab, cat-ext, piece, pieces, take-cat}
-use Rattle.words.proofs.Blocks.{length-wordBytes, le-lowBytes, lowBytes-le, bytes-take, bytes-drop}
+use Rattle.words.proofs.Blocks.{length-wordBytes, le-lowBytes, lowBytes-le, length-bytesOf, bytes-bytesOf, bytes-take, bytes-drop}
 use Rattle.blockplan.specs.Plan.{tagBytes}
-use Rattle.mro.specs.Mro.{counter}
+
+pub length-tagBytes : (b : List ℕ) → length (tagBytes b) ≡ 32
+unfolding tagBytes
+length-tagBytes b = length-take-le 32 (bytesOf b) (rw (length-bytesOf b) (omega arith))
+
+pub bytes-tagBytes : (b : List ℕ) → Bytes (tagBytes b)
+unfolding tagBytes
+bytes-tagBytes b = bytes-take 32 (bytesOf b) (bytes-bytesOf b)
 
 -- the bytes of the first four words
 pub tag-is : (b : List ℕ) → tagBytes b ≡ cat (wordBytes b) 4
@@ -24,12 +31,6 @@ unfolding wordAt wordBytes
 word-tag b h i p =
     ap (λ (l : List ℕ). le (take 8 (drop (8 * i) l))) (tag-is b ∙ sym (append-nil (cat (wordBytes b) 4)))
     ∙ ap le (piece (wordBytes b) 8 4 i [] (length-wordBytes b) p) ∙ le-lowBytes 8 (getD b i 0) (h .words i)
-
--- the counter's block, word by word
-pub counter-words : (b : List ℕ) → Block b → (i : ℕ)
-    → counter (tagBytes b) i ≡ getD b 0 0 ∷ getD b 1 0 ∷ getD b 2 0 ∷ getD b 3 0 ∷ 0 ∷ 0 ∷ 0 ∷ 0 ∷ 0 ∷ 0 ∷ 0 ∷ 0 ∷ 0 ∷ 0 ∷ 0 ∷ i ∷ []
-unfolding counter zeros tab
-counter-words b h i = rw (word-tag b h 0 (lit< tt), word-tag b h 1 (lit< tt), word-tag b h 2 (lit< tt), word-tag b h 3 (lit< tt))
 
 -- 32 bytes come back from a block that begins with their words
 pub tag-words : (t rest : List ℕ) → Bytes t → length t ≡ 32 → tagBytes (tab (wordAt t) 4 ++ rest) ≡ t
