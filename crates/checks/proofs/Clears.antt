@@ -1,7 +1,7 @@
--- Laws of the checks of seal and open: the checks behind, and what holds where all are clear. Assumes nothing.
+-- Laws of the checks of seal and open: the checks behind, what holds where all are clear, and that their places are 0. Assumes nothing.
 use mathlib.Core.Path.{_≡_, refl, sym, ap, _∙_}
 use mathlib.Core.Bool.{not}
-use Prim.Native.Nat.{ℕ, _+_, _-_, _≤_}
+use Prim.Native.Nat.{ℕ, _+_, _-_, _≤_, _<_}
 use native.Mathlib.Omega.{arith}
 use lib.Dec.{eqb, ltb}
 use borrow.Author.Tests.{not-false, eqb-true, ltb-false, le-ltb}
@@ -9,8 +9,8 @@ use Rattle.answers.specs.Answers.{lineAt, line, room}
 use Rattle.answers.specs.declared.Check.{Check}
 use Rattle.answers.specs.declared.Check.the-variants.{Clear, Fails}
 use Rattle.answers.specs.declared.Ground.{Ground}
-use Rattle.answers.specs.declared.Ground.the-variants.{Mode, Rounds, KeyLength, NonceLength, HeaderLength, InputLength, TagMissing}
-use Rattle.answers.proofs.Values.{after, line-after, line-clear, after-clear, room-clear}
+use Rattle.answers.specs.declared.Ground.the-variants.{Mode, Rounds, KeyLength, NonceLength, HeaderLength, InputLength, OutputLength, TagMissing}
+use Rattle.answers.proofs.Values.{placeOf, lineAt-lt, after, line-after, line-clear, after-clear, room-clear}
 use Rattle.checks.specs.Checks.{isMode, isRounds, settings, sealInputs, openInputs, sealChecks, openChecks}
 
 module _ (mode rounds key nonce header : ℕ) where
@@ -104,6 +104,30 @@ module _ (mode rounds key nonce header : ℕ) where
         let a = after-clear _ _ (sym (open-after (room (parcel - 32) out)) ∙ e) in
         let i = open-inputs (a .0) in
         (settings-lengths (i .0), (i .1, room-clear (parcel - 32) out (a .1)))
+
+  -- ---- their places are 0
+
+  settings-place : (n : ℕ) (next : Check) → 0 < n → placeOf next < n → placeOf (settings mode rounds key nonce header next) < n
+  unfolding settings line
+  settings-place n next z h =
+      lineAt-lt n (not (isMode mode)) Mode 0 _ z
+      (λ a. lineAt-lt n (not (isRounds rounds)) Rounds 0 _ z
+      (λ b. lineAt-lt n (not (eqb key 32)) KeyLength 0 _ z
+      (λ c. lineAt-lt n (not (eqb nonce 16)) NonceLength 0 _ z
+      (λ d. lineAt-lt n (ltb 4096 header) HeaderLength 0 next z (λ e. h)))))
+
+  pub seal-place : (message out n : ℕ) → 0 < n → placeOf (sealChecks mode rounds key nonce header message out) < n
+  unfolding sealChecks sealInputs room line
+  seal-place message out n z =
+      settings-place n _ z
+      (lineAt-lt n (ltb 65536 message) InputLength 0 _ z (λ a. lineAt-lt n (ltb out (message + 32)) OutputLength 0 Clear z (λ b. z)))
+
+  pub open-place : (parcel out n : ℕ) → 0 < n → placeOf (openChecks mode rounds key nonce header parcel out) < n
+  unfolding openChecks openInputs room line
+  open-place parcel out n z =
+      settings-place n _ z
+      (lineAt-lt n (ltb parcel 32) TagMissing 0 _ z
+      (λ a. lineAt-lt n (ltb 65568 parcel) InputLength 0 _ z (λ b. lineAt-lt n (ltb out (parcel - 32)) OutputLength 0 Clear z (λ c. z))))
 
   -- ---- a message and a parcel 32 bytes longer pass the same checks
 

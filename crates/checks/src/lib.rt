@@ -48,7 +48,14 @@ fn check_settings(mode: u32, rounds: u32, key: usize, nonce: usize, header: usiz
 }
 
 // Seal's checks but for the output's length.
-pub fn check_message(mode: u32, rounds: u32, key: usize, nonce: usize, header: usize, message: usize) -> Check
+pub fn check_message(
+    mode: u32,
+    rounds: u32,
+    key: usize,
+    nonce: usize,
+    header: usize,
+    message: usize,
+) -> Check
     ensures { λ r. ⌜ r ≡ sealInputs mode rounds key nonce header message Clear ⌝ }
 {
     let found = check_settings(mode, rounds, key, nonce, header);
@@ -62,7 +69,14 @@ pub fn check_message(mode: u32, rounds: u32, key: usize, nonce: usize, header: u
 }
 
 // Open's checks but for the output's length and the tag.
-pub fn check_parcel(mode: u32, rounds: u32, key: usize, nonce: usize, header: usize, parcel: usize) -> Check
+pub fn check_parcel(
+    mode: u32,
+    rounds: u32,
+    key: usize,
+    nonce: usize,
+    header: usize,
+    parcel: usize,
+) -> Check
     ensures { λ r. ⌜ r ≡ openInputs mode rounds key nonce header parcel Clear ⌝ }
 {
     let found = check_settings(mode, rounds, key, nonce, header);
@@ -79,7 +93,15 @@ pub fn check_parcel(mode: u32, rounds: u32, key: usize, nonce: usize, header: us
 }
 
 // Seal's checks.
-pub fn check_seal(mode: u32, rounds: u32, key: usize, nonce: usize, header: usize, message: usize, out: usize) -> Check
+pub fn check_seal(
+    mode: u32,
+    rounds: u32,
+    key: usize,
+    nonce: usize,
+    header: usize,
+    message: usize,
+    out: usize,
+) -> Check
     ensures { λ r. ⌜ r ≡ sealChecks mode rounds key nonce header message out ⌝ }
 {
     let found = check_message(mode, rounds, key, nonce, header, message);
@@ -90,7 +112,15 @@ pub fn check_seal(mode: u32, rounds: u32, key: usize, nonce: usize, header: usiz
 }
 
 // Open's checks but for the tag.
-pub fn check_open(mode: u32, rounds: u32, key: usize, nonce: usize, header: usize, parcel: usize, out: usize) -> Check
+pub fn check_open(
+    mode: u32,
+    rounds: u32,
+    key: usize,
+    nonce: usize,
+    header: usize,
+    parcel: usize,
+    out: usize,
+) -> Check
     ensures { λ r. ⌜ r ≡ openChecks mode rounds key nonce header parcel out ⌝ }
 {
     let found = check_parcel(mode, rounds, key, nonce, header, parcel);
