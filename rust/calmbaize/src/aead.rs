@@ -7,14 +7,14 @@ use crate::{slices, Key, Mode, Nonce, Refusal, Rounds};
 /// It keeps nothing between calls. No two of the arguments of a call have the same type, so that
 /// none can stand in another's place:
 ///
-/// ```compile_fail
+/// ```compile_fail,E0308
 /// # use calmbaize::{Aead, Header, Key, Mode, Nonce, Rounds};
 /// let aead = Aead::new(Mode::Mro, Rounds::Six, Key::new([7; 32]));
 /// let (nonce, header, message) = (Nonce::new([1; 16]), Header(b"machine 11"), b"150 cents");
 /// aead.seal(&nonce, message, header, &mut [0; 64]);
 /// ```
 ///
-/// ```compile_fail
+/// ```compile_fail,E0308
 /// # use calmbaize::{Aead, Key, Mode, Nonce, Rounds};
 /// let aead = Aead::new(Mode::Mro, Rounds::Six, Nonce::new([1; 16]));
 /// ```

@@ -44,12 +44,12 @@ impl From<Ground> for Refusal {
     }
 }
 
-/// All grounds from one table: number, name and text. In a text, `{place}` stands for the
-/// refusal's place and `{rounds}` for the allowed counts.
+/// All grounds from one table: number, name and text.
 macro_rules! grounds {
     ($($number:literal $name:ident $text:literal,)+) => {
         /// What a call is refused for. Its [number](Self::number) is the same in every interface
-        /// of the library.
+        /// of the library. In its text `{place}` stands for the [place](Refusal::place) and
+        /// `{rounds}` for the [allowed counts](Rounds::LIST).
         #[derive(Clone, Copy, Debug, PartialEq, Eq, Hash)]
         #[non_exhaustive]
         pub enum Ground {

@@ -59,14 +59,16 @@ fn write_path(path: &Path, bytes: &[u8], access: Access) -> io::Result<()> {
     if existing.as_ref().is_some_and(|found| !found.is_file()) {
         return OpenOptions::new().write(true).open(path)?.write_all(bytes);
     }
-    let permissions = match access {
-        Access::Owner => Some(Permissions::from_mode(0o600)),
-        Access::Ordinary => existing.map(|found| found.permissions()),
+    let kept = existing.map(|found| found.permissions());
+    let (mode, kept) = match (access, kept) {
+        (Access::Owner, _) => (0o600, None),
+        (Access::Ordinary, None) => (0o666, None),
+        (Access::Ordinary, Some(kept)) => (kept.mode() & 0o777, Some(kept)),
     };
     let target = fs::canonicalize(path).unwrap_or_else(|_| path.to_path_buf());
     let temporary = temporary_name(&target)?;
-    let file = create(&temporary, permissions.as_ref())?;
-    let written = fill(file, bytes, permissions).and_then(|()| fs::rename(&temporary, &target));
+    let file = create(&temporary, mode)?;
+    let written = fill(file, bytes, mode, kept).and_then(|()| fs::rename(&temporary, &target));
     if written.is_err() {
         fs::remove_file(&temporary).ok();
     }
@@ -79,20 +81,24 @@ fn temporary_name(target: &Path) -> io::Result<PathBuf> {
     Ok(target.with_file_name(format!(".calmbaize.{}.tmp", process::id())))
 }
 
-/// A new file, which from the start grants no more than `permissions`.
-fn create(path: &Path, permissions: Option<&Permissions>) -> io::Result<File> {
-    let mode = permissions.map_or(0o666, |permissions| permissions.mode() & 0o777);
+/// A new file. It is never open to more than `mode` says, not even while it is empty: who has
+/// opened it can read what is written later.
+fn create(path: &Path, mode: u32) -> io::Result<File> {
     let mut options = OpenOptions::new();
     options.write(true).create_new(true).mode(mode).open(path)
 }
 
-/// Writes a new file. Its permissions are set once more, since the umask may have taken some, and
-/// a file system that can't keep them says so.
-fn fill(mut file: File, bytes: &[u8], permissions: Option<Permissions>) -> io::Result<()> {
-    if let Some(permissions) = permissions {
-        file.set_permissions(permissions)?;
+/// Writes a new file that was made with `mode`, of which the umask may have taken some of what
+/// is `kept`.
+fn fill(mut file: File, bytes: &[u8], mode: u32, kept: Option<Permissions>) -> io::Result<()> {
+    // Some file systems have no permissions of their own.
+    if file.metadata()?.permissions().mode() & 0o066 & !mode != 0 {
+        return Err(io::Error::other("others could read or change it there"));
     }
     file.write_all(bytes)?;
+    if let Some(kept) = kept {
+        file.set_permissions(kept)?;
+    }
     file.sync_all()
 }
 
