@@ -6,7 +6,7 @@
 //! [`Aead`] holds mode, round count and key. [`Aead::seal`] turns a message into a parcel, the
 //! ciphertext and then a tag of 32 bytes; [`Aead::open`] turns a parcel back into its message or
 //! refuses it. A header is authenticated with the message and not sent. [`walk()`] and [`jump()`]
-//! step the masks that the construction is built on.
+//! step the masks that the construction is built on; a mask is as secret as the key.
 //!
 //! | Mode | Repeated nonce | Passes over the message |
 //! |---|---|---|

@@ -18,7 +18,7 @@ use core::fmt;
 pub struct Refusal {
     /// What the call was refused for.
     pub ground: Ground,
-    /// Where the ground lies, 0 for all grounds but [`Ground::Step`].
+    /// Where the ground lies: the index of the step for [`Ground::Step`], 0 for the others here.
     pub place: u32,
 }
 

@@ -96,27 +96,21 @@ impl Settings {
 }
 
 fn seal(options: &Options) -> Result<Vec<u8>, Failure> {
-    let Settings {
-        aead,
-        nonce,
-        header,
-    } = Settings::new(options)?;
+    let with = Settings::new(options)?;
     let message = input(options, MAX_MESSAGE_LEN)?;
     let mut parcel = vec![0; message.len() + TAG_LEN];
-    let written = aead.seal(&nonce, Header(&header), &message, &mut parcel)?;
+    let header = Header(&with.header);
+    let written = with.aead.seal(&with.nonce, header, &message, &mut parcel)?;
     parcel.truncate(written);
     Ok(parcel)
 }
 
 fn open(options: &Options) -> Result<Vec<u8>, Failure> {
-    let Settings {
-        aead,
-        nonce,
-        header,
-    } = Settings::new(options)?;
+    let with = Settings::new(options)?;
     let parcel = input(options, MAX_MESSAGE_LEN + TAG_LEN)?;
     let mut message = vec![0; parcel.len().saturating_sub(TAG_LEN)];
-    let written = aead.open(&nonce, Header(&header), &parcel, &mut message)?;
+    let header = Header(&with.header);
+    let written = with.aead.open(&with.nonce, header, &parcel, &mut message)?;
     message.truncate(written);
     Ok(message)
 }
@@ -171,9 +165,10 @@ fn bytes(
 /// Standard input can be read for one option only.
 fn check_standard_input(options: &Options) -> Result<(), Failure> {
     let settings = ["--key-file", "--nonce-file", "--header-file"];
-    let is_standard = |name: &&&str| options.value(name).is_some_and(files::is_standard);
+    let named = settings.iter().filter_map(|name| options.value(name));
+    let count = named.filter(|path| files::is_standard(path)).count();
     let input = options.value("--input").is_none_or(files::is_standard);
-    if settings.iter().filter(is_standard).count() + usize::from(input) > 1 {
+    if count + usize::from(input) > 1 {
         return Err(Failure::Usage(
             "only one of --key-file, --nonce-file, --header-file and --input can be \
              standard input"

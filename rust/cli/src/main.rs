@@ -12,8 +12,8 @@ use options::Options;
 use std::ffi::{OsStr, OsString};
 use std::process::ExitCode;
 
-/// Why the tool gives up. Only [`Failure::File`] can come after a part was written, and then to
-/// what is no file.
+/// Why a command did not succeed. A file that can't be written may be a pipe, a device or standard
+/// output that has got a part; otherwise nothing was written.
 enum Failure {
     Usage(String),
     File(String),

@@ -10,9 +10,9 @@ use std::os::unix::fs::PermissionsExt;
 use std::path::{Path, PathBuf};
 use std::process::Command;
 
-/// Makes a write past so many blocks of 512 bytes fail, and kill nothing.
+/// In a shell: no file gets over 512 bytes, and a write past them fails.
 const FILES_OF_ONE_BLOCK: &str = "trap '' XFSZ; ulimit -f 1";
-/// Has a process killed once it writes a byte to a file.
+/// In a shell: a process is killed at its first byte to a file.
 const NO_FILES: &str = "ulimit -c 0; ulimit -f 0";
 
 fn mode(path: &Path) -> u32 {
