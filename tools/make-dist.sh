@@ -11,21 +11,18 @@ root=$(cd "$(dirname "$0")/.." && pwd)
 archive=$1
 folder=${2:-$root/dist}
 version=$("$root/tools/version.sh")
+work=$(mktemp -d)
+trap 'rm -rf "$work"' EXIT
 
-# put NAME: the file NAME of the folder has what standard input has.
+# put FILE NAME: the folder's NAME becomes as FILE is.
 put() {
-    cat > "$folder/.new"
-    if cmp -s "$folder/.new" "$folder/$1"; then
-        rm "$folder/.new"
-    else
-        mv "$folder/.new" "$folder/$1"
-    fi
+    cmp -s "$1" "$folder/$2" && return
+    cp "$1" "$folder/.new"
+    mv "$folder/.new" "$folder/$2"
 }
 
 mkdir -p "$folder"
-put libcalmbaize.a < "$archive"
-put calmbaize.h < "$root/include/calmbaize.h"
-put calmbaize.pc <<END
+cat > "$work/calmbaize.pc" <<END
 prefix=\${pcfiledir}
 libdir=\${prefix}
 includedir=\${prefix}
@@ -36,3 +33,6 @@ Version: $version
 Libs: -L\${libdir} -lcalmbaize
 Cflags: -I\${includedir}
 END
+put "$archive" libcalmbaize.a
+put "$root/include/calmbaize.h" calmbaize.h
+put "$work/calmbaize.pc" calmbaize.pc
