@@ -46,10 +46,10 @@ bench: dist ## measures, and writes docs/BENCHMARKS.md
 	@cd rust && cargo run --offline --release --quiet --package bench -- --docs ../docs $(if $(wildcard target/gate.times),--gate ../target/gate.times)
 
 install: ## copies what make built below PREFIX (/usr/local), with DESTDIR put before it
-	@tools/install.sh install $(DIST) $(TOOL)
+	@tools/install.sh install "$(DIST)" "$(TOOL)"
 
 uninstall: ## takes away what make install put there
-	@tools/install.sh uninstall $(DIST) $(TOOL)
+	@tools/install.sh uninstall "$(DIST)" "$(TOOL)"
 
 tools: ## sees that what the checks need beside the toolchain is there, or installs it
 	@tools/need.sh cargo cargo

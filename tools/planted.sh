@@ -84,6 +84,7 @@ planted_layout() {
 
 build "$work/sound"
 expect 0 "sound: compare" compare "$work/sound" all
+expect 0 "sound: cases" compare "$work/sound" vectors "$root"/rust/compare/cases/*.txt
 expect 0 "sound: secrets" "$root/tools/check-secrets.sh" "$work/sound" 1
 expect 0 "sound: stack" "$root/tools/check-stack.sh" "$work/sound"
 expect 0 "sound: archive" "$root/tools/check-archive.sh" "$work/sound"
@@ -116,7 +117,7 @@ planted "a deep stack" \
     '/^static void start_block/,/^}/s/load(start, bytes);/volatile uint8_t deep[9000]; deep[0] = 0; &/' \
     "$root/tools/check-stack.sh" "$faulty"
 planted "rounds that no check tries" \
-    's/rounds != 4 && rounds != 6/& \&\& rounds != 8/' \
+    's/= check_settings(mode, rounds,/= check_settings(mode, rounds == 8 ? 4 : rounds,/' \
     "$root/tools/check-stack.sh" "$faulty"
 planted "a call outside" \
     '/^uint64_t baseline_walk/,/^}/s/load(m, start);/extern int puts(const char *); puts("walk"); &/' \
@@ -173,6 +174,9 @@ planted "another start" \
     's/memcpy(bytes, nonce, NONCE);/&  bytes[80] = 4;/' \
     compare "$faulty" random
 
+planted "another start, in the cases" \
+    's/memcpy(bytes, nonce, NONCE);/&  bytes[80] = 4;/' \
+    compare "$faulty" vectors "$root"/rust/compare/cases/*.txt
 planted "another start under the same format" \
     's/memcpy(bytes, nonce, NONCE);/&  bytes[80] = 4;/' \
     "$root/tools/check-install.sh" "$faulty"
