@@ -69,8 +69,9 @@ pub fn open(
     if let Check::Fails(ground, place) = found {
         return Answer::Refused(ground, place);
     }
+    let written = n - 32;
     if modes::open(start(key, nonce, rounds), mode, rounds, header, parcel, out) {
-        Answer::Done((n - 32) as u64)
+        Answer::Done(written as u64)
     } else {
         Answer::Refused(Ground::TagDiffers, 0)
     }

@@ -22,6 +22,9 @@ returns c = refused _ _ _ _ (c .before .before .before .check-open .ensures) (c 
 enum-told : tie.Need-enum-told
 enum-told c = search needs
 
+sub-written : tie.Need-sub-written
+sub-written c = omega (arith, open-clear _ _ _ _ _ _ _ (sym (c .before .before .check-open .ensures) ∙ c .enum-told .given .1) .1 .0 .0)
+
 start-requires : tie.Need-start-requires
 start-requires c κs = open-clear _ _ _ _ _ _ _ (sym (c .before .before .check-open .ensures) ∙ c .enum-told .given .1) .0
 
@@ -29,9 +32,6 @@ open-requires : tie.Need-open-requires
 open-requires c κs =
     let h = open-clear _ _ _ _ _ _ _ (sym (c .before .before .before .before .check-open .ensures) ∙ c .before .before .enum-told .given .1) .1 in
     (h .0 .0, omega (arith, h .1))
-
-sub-t21 : tie.Need-sub-t21
-sub-t21 c = open-clear _ _ _ _ _ _ _ (sym (c .before .before .before .before .before .before .before .before .check-open .ensures) ∙ c .before .before .before .before .before .before .enum-told .given .1) .1 .0 .0
 
 same-length : tie.Need-same-length
 same-length c = search needs
@@ -54,4 +54,4 @@ returns-3 c =
 pub open-spec : {M : Type 1} → statement M
 open-spec =
     tie.close
-    (tie.spec check-open-requires enum-known-found returns enum-told start-requires open-requires sub-t21 same-length returns-2 same-length-2 returns-3)
+    (tie.spec check-open-requires enum-known-found returns enum-told sub-written start-requires open-requires same-length returns-2 same-length-2 returns-3)
