@@ -2,9 +2,7 @@
 
 use crate::library::{refusal, Entry, Library};
 use crate::report::{pattern, Check, Tally};
-
-const OPP: u32 = 1;
-const MRO: u32 = 2;
+use reference::{MRO, OPP, ROUNDS};
 
 /// Every line that can be seen through the four calls.
 pub fn run(library: &Library) -> Tally {
@@ -58,7 +56,7 @@ fn steps(check: &mut Check) {
 /// P10 and P11; P2 is behind both, since a start of zeros gives masks of zeros.
 fn zeros(check: &mut Check) {
     for (name, mode, len) in [("P10", OPP, 0), ("P10", MRO, 0), ("P11", OPP, 128)] {
-        for rounds in [4, 6] {
+        for &rounds in ROUNDS {
             let mut parcel = pattern(len + 32);
             let inputs: [&[u8]; 4] = [&[0; 32], &[0; 16], &[], &vec![0; len]];
             let entry = Entry::Seal { mode, rounds };
@@ -70,21 +68,22 @@ fn zeros(check: &mut Check) {
 }
 
 fn sealing_limits(check: &mut Check) {
+    let good = ROUNDS[0];
     let lines = [
         ("rounds 5 and a key of 31", 5, 31, 0, 0, 32, refusal(2, 0)),
-        ("a header of 4,096", 4, 32, 4096, 0, 32, 32),
-        ("a header of 4,097", 4, 32, 4097, 0, 32, refusal(5, 0)),
-        ("a message of 65,536", 4, 32, 0, 65_536, 65_568, 65_568),
+        ("a header of 4,096", good, 32, 4096, 0, 32, 32),
+        ("a header of 4,097", good, 32, 4097, 0, 32, refusal(5, 0)),
+        ("a message of 65,536", good, 32, 0, 65_536, 65_568, 65_568),
         (
             "a message of 65,537",
-            4,
+            good,
             32,
             0,
             65_537,
             65_569,
             refusal(6, 0),
         ),
-        ("an output of 159", 4, 32, 0, 128, 159, refusal(7, 0)),
+        ("an output of 159", good, 32, 0, 128, 159, refusal(7, 0)),
     ];
     for mode in [OPP, MRO] {
         for (name, rounds, key, header, message, output, wanted) in lines {
@@ -100,7 +99,7 @@ fn sealing_limits(check: &mut Check) {
             ("a parcel of 32", vec![1; 32], refusal(9, 0)),
         ] {
             let inputs: [&[u8]; 4] = [&[0; 32], &[0; 16], &[], &parcel];
-            let entry = Entry::Open { mode, rounds: 4 };
+            let entry = Entry::Open { mode, rounds: good };
             answers(check, name, entry, &inputs, &mut [], wanted);
         }
     }
