@@ -38,6 +38,7 @@ test: ## the gate: layout, proofs, must-fail edits, and the checks of the machin
 	@.ci/run
 
 planted: tools ## the outside checks, seen to fail on faulty libraries, headers and programs
+	@tools/need.sh pkg:libsodium-dev libsodium-dev
 	@tools/planted.sh
 
 bench: dist ## measures, and writes docs/BENCHMARKS.md

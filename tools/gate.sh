@@ -49,9 +49,14 @@ cargo_in_rust() {
     (cd rust && cargo "$1" --offline --release --quiet "${@:2}")
 }
 
-# Calls and their answers, in files.
+# Calls and their answers, in files: the archive, and the second implementation.
 cases() {
-    (cd rust && cargo run --offline --release --quiet --package compare -- vectors compare/cases/*.txt)
+    (
+        cd rust || exit 2
+        for library in archive reference; do
+            cargo run --offline --release --quiet --package compare -- --library "$library" vectors compare/cases/*.txt || exit
+        done
+    )
 }
 
 tools/need.sh rt '' && make --no-print-directory tools || exit 2
@@ -65,6 +70,7 @@ if [ -f dist/libcalmbaize.a ]; then
     part "install" tools/check-install.sh
     part "Rust tests" cargo_in_rust test --workspace
     part "comparison with the second implementation" cargo_in_rust run --package compare -- all
+    part "comparison of the scalar C" cargo_in_rust run --package compare -- --library baseline --calls 3000 all permute
     part "cases" cases
     part "maskwalk" cargo_in_rust run --package compare -- --maskwalk ../target/bin/maskwalk maskwalk
     part "stack" tools/check-stack.sh

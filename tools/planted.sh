@@ -27,6 +27,12 @@ compare() {
         --package compare -- --calls 3000 "$@"
 }
 
+# bench FOLDER: the benchmarks, linked with the archive in FOLDER, their page written elsewhere.
+bench() {
+    CALMBAIZE_LIB_DIR=$1 cargo run --release --quiet --offline --manifest-path "$root/rust/Cargo.toml" \
+        --package bench -- --docs "$work"
+}
+
 # expect STATUS NAME COMMAND...: 0 where the command must pass, 1 where it must fail.
 expect() {
     wanted=$1
@@ -137,6 +143,9 @@ planted "a table that is not local" \
 planted "a call under another name" \
     's/^uint64_t baseline_jump/uint64_t calmbaize_leap/' \
     "$root/tools/check-archive.sh" "$faulty"
+planted "a call that ends the program" \
+    '/^uint64_t baseline_walk/,/^}/s/load(m, start);/extern void exit(int); exit(0); &/' \
+    compare "$faulty" guard
 planted "a byte read past a buffer" \
     's/memcpy(bytes, p, len);/memcpy(bytes, p, len + 1);/' \
     compare "$faulty" guard
@@ -154,6 +163,9 @@ planted "two rotations in alpha" \
     compare "$faulty" masks
 planted "a back step that does not undo" \
     's/ ^ c\[6\] << 13//' \
+    compare "$faulty" masks
+planted "walk and jump that both refuse" \
+    '/^uint64_t baseline_walk/,/^}/s/if (output_len < BLOCK)/if (steps_len != 1)/; /^uint64_t baseline_jump/,/^}/s/if (output_len < BLOCK)/if (1)/' \
     compare "$faulty" masks
 planted "a check out of order" \
     's/if (input_len < TAG)/if (output_len + TAG < input_len) return refuse(7, 0); &/' \
@@ -183,6 +195,10 @@ planted "another start under the same format" \
 planted_install "another library's name for pkg-config" calmbaize.pc 's/-lcalmbaize/-lcalmbaise/'
 planted_install "another version for pkg-config" calmbaize.pc 's/^Version: /&1/'
 planted_install "another format, the same parcels" calmbaize.h 's/CALMBAIZE_FORMAT 1/CALMBAIZE_FORMAT 2/'
+
+planted "a timed call that is refused" \
+    's/MAX_MESSAGE = 65536/MAX_MESSAGE = 65535/' \
+    bench "$faulty"
 
 planted_header "a header that does not compile" 's/size_t key_len/key_len/'
 planted_header "open's answer may be dropped" \
