@@ -1,4 +1,8 @@
+pub mod Leftovers
+pub mod Sums
 pub mod Ciphered
-pub mod Plans
+pub mod Passes
 pub mod Tags
+pub mod Compared
+pub mod Kept
 pub mod Parcels

@@ -1,5 +1,5 @@
 -- Laws of parcels, for every mode that is lawful: a message comes back from its parcel, and a genuine parcel is that of its message. Assumes nothing.
-use mathlib.Core.Path.{_≡_, sym, ap, ap₂, _∙_}
+use mathlib.Core.Path.{_≡_, refl, sym, ap, ap₂, _∙_}
 use mathlib.Core.Bool.{Bool, true, false, cond}
 use mathlib.Core.List.{List, _++_, append-assoc}
 use Prim.Native.Nat.{ℕ, _+_, _-_, _≤_}
@@ -12,7 +12,8 @@ use Rattle.words.specs.Block.{Bytes}
 use Rattle.words.proofs.Lists.{fronted}
 use Rattle.words.proofs.Blocks.{bytes-append, bytes-take}
 use Rattle.blockplan.specs.Parcel.{Mode, Lawful, parcelOf, cipherPart, tagPart, messageOf, genuine, opened}
-use Rattle.blockplan.proofs.Plans.{same-true, same-refl}
+use Rattle.blockplan.specs.Compare.{verified}
+use Rattle.blockplan.proofs.Compared.{same-true, same-refl}
 
 module _ (m : Mode) (law : Lawful m) (header : List ℕ) where
   -- ---- the parcel of a message
@@ -82,13 +83,16 @@ module _ (m : Mode) (law : Lawful m) (header : List ℕ) where
         (ap (λ (c : List ℕ). c ++ drop n parcel) (law .undo (drop n parcel) .forth-back (take n parcel) (bytes-take n parcel h))
         ∙ take-append-drop n parcel)
 
-    -- the message was written, and then kept or cleared
-    pub opened-as : (old xs ys : List ℕ) (right : Bool) → 32 ≤ length parcel → xs ≡ messageOf m parcel ++ drop (length parcel - 32) old
-        → right ≡ genuine m header parcel → ys ≡ cond right xs (zeros (length parcel - 32) ++ drop (length parcel - 32) xs)
-        → (right, ys) ≡ opened m header parcel old
-    unfolding opened
-    opened-as old xs ys right h e r q = rw (q, ← r) (ap (λ (l : List ℕ). (right, l)) (chosen right))
+    -- the message is in front, and then stayed or was cleared
+    pub opened-is : (old : List ℕ) → 32 ≤ length parcel
+        → verified (m .tag header (messageOf m parcel)) parcel (messageOf m parcel ++ drop (length parcel - 32) old) ≡ opened m header parcel old
+    unfolding verified opened genuine
+    opened-is old h = ap (λ (l : List ℕ). (genuine m header parcel, l)) (chosen (genuine m header parcel))
       where
-        chosen : (b : Bool) → cond b xs (zeros (length parcel - 32) ++ drop (length parcel - 32) xs) ≡ cond b (messageOf m parcel) (zeros (length parcel - 32)) ++ drop (length parcel - 32) old
-        chosen true = e
-        chosen false = rw (e, drop-at (messageOf m parcel) (drop (length parcel - 32) old) (length parcel - 32) (message-long h))
+        n : ℕ
+        n = length parcel - 32
+
+        chosen : (right : Bool) → cond right (messageOf m parcel ++ drop n old) (zeros n ++ drop n (messageOf m parcel ++ drop n old))
+            ≡ cond right (messageOf m parcel) (zeros n) ++ drop n old
+        chosen true = refl
+        chosen false = rw (drop-at (messageOf m parcel) (drop n old) n (message-long h))

@@ -1,4 +1,4 @@
 pub mod Plan
 pub mod Parcel
-pub mod Stepped
+pub mod Pass
 pub mod Compare

@@ -2,3 +2,9 @@
 pub mod absorb;
 pub mod leftover;
 pub mod tag;
+
+// A sum of blocks, and the mask of the next block.
+pub struct Summed {
+    pub sum: [u64; 16],
+    pub mask: [u64; 16],
+}

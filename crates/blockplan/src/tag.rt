@@ -2,14 +2,14 @@
 use words::block::store;
 use words::word::store_word;
 ghost use mathlib.Core.Path.{_≡_};
-ghost use mathlib.Core.Bool.{cond, not};
+ghost use mathlib.Core.Bool.{cond};
 ghost use mathlib.Core.List.{_++_};
-ghost use Prim.Native.Nat.{_≤_};
+ghost use Prim.Native.Nat.{_+_, _≤_};
 ghost use lib.Dec.{eqb};
 ghost use lib.ListN.{length, drop};
 ghost use Rattle.words.specs.Sequence.{zeros};
 ghost use Rattle.words.specs.Block.{bytesOf};
-ghost use Rattle.blockplan.specs.Compare.{differing};
+ghost use Rattle.blockplan.specs.Compare.{differing, verified};
 ghost use Rattle.blockplan.specs.Plan.{tagBytes};
 
 // The first 32 bytes of a block, to the front of the output.
@@ -27,7 +27,7 @@ pub fn store_tag(b: [u64; 16], out: &mut [u8])
 
 // The bits in which the tag is wrong, so 0 where it is right: all 32 bytes are looked at, whether or
 // not an early one differs.
-pub fn difference(b: [u64; 16], tag: &[u8]) -> u8
+fn difference(b: [u64; 16], tag: &[u8]) -> u8
     requires { ⌜ length (now tag) ≡ 32 ⌝ }
     ensures { λ r. ⌜ r ≡ differing (bytesOf b) (now (tag .entry)) 32 ⌝ }
 {
@@ -55,7 +55,7 @@ fn mask_of(differ: u8) -> u8
 
 // The first n bytes stay where nothing differs and become zero where something does, by the same
 // steps in both cases.
-pub fn keep(out: &mut [u8], n: usize, differ: u8)
+fn keep(out: &mut [u8], n: usize, differ: u8)
     requires { ⌜ n ≤ length (now out) ⌝ }
     ensures { λ _. ⌜ now (out .exit) ≡ cond (eqb differ 0) (now (out .entry)) (zeros n ++ drop n (now (out .entry))) ⌝ }
 {
@@ -65,4 +65,16 @@ pub fn keep(out: &mut [u8], n: usize, differ: u8)
         out[i] = out[i] & mask;
         i += 1;
     }
+}
+
+// Whether the parcel's tag is the first 32 bytes of the block expected. The output's bytes in the
+// message's place stay where it is, and become zero where it is not.
+pub fn verify(expected: [u64; 16], parcel: &[u8], out: &mut [u8]) -> bool
+    requires { ⌜ (32 ≤ length (now parcel)) × (length (now parcel) ≤ length (now out) + 32) ⌝ }
+    ensures { λ r. ⌜ (r, now (out .exit)) ≡ verified (tagBytes expected) (now (parcel .entry)) (now (out .entry)) ⌝ }
+{
+    let n = parcel.len() - 32;
+    let differ = difference(expected, &parcel[n..]);
+    keep(out, n, differ);
+    differ == 0
 }

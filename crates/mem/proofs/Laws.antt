@@ -1,20 +1,19 @@
 -- Laws of the masks (i, j, k), of E and of D. Assumes nothing.
-use mathlib.Core.Path.{_≡_, refl, sym, ap, _∙_, subst}
-use mathlib.Core.List.{List, [], _∷_, _++_}
-use Prim.Native.Nat.{ℕ, zero, suc, _^_, _<_}
-use native.Mathlib.Omega.{arith}
+use mathlib.Core.Path.{_≡_, refl, sym, ap, _∙_}
+use mathlib.Core.List.{List, _++_}
+use Prim.Native.Nat.{ℕ, zero, suc, _^_}
 use lib.Dec.{lit<}
-use lib.ListN.{getD, length-append}
+use lib.ListN.{length-append}
 use Rattle.words.specs.Sequence.{tab, times, zeros}
-use Rattle.words.specs.Block.{Block, Bytes, wordAt, blockOf, xorBlock}
+use Rattle.words.specs.Block.{Block, Bytes, wordAt, xorBlock}
 use Rattle.words.specs.Undo.{Undo}
-use Rattle.words.proofs.Lists.{length-tab, getD-tab}
-use Rattle.words.proofs.Blocks.{xor-block, xorBlock-cancel, below-tab, block-blockOf}
+use Rattle.words.proofs.Lists.{length-tab, below-append}
+use Rattle.words.proofs.Blocks.{xor-block, xorBlock-cancel, below-tab, wordAt-lt}
 use Rattle.words.proofs.Times.{times-keeps, times-commute}
 use Rattle.words.proofs.Maps.{undo-then}
 use Rattle.permutation.proofs.Undone.{perm-undo, perm-block}
 use Rattle.masks.specs.Steps.{alpha, beta, gamma}
-use Rattle.masks.proofs.Laws.{alpha-block, beta-block, gamma-block, alpha-beta, alpha-gamma}
+use Rattle.masks.proofs.Laws.{alpha-block, beta-block, gamma-block, alpha-beta, alpha-gamma, beta-gamma}
 use Rattle.mem.specs.Mem.{startBlock, startOf, maskAt, encipher, decipher, E, D}
 
 -- ---- masks
@@ -35,6 +34,14 @@ mask-alpha start b (suc i) j k =
     ap (times gamma k) (sym (times-commute Block beta beta-block alpha alpha-beta j one one-block))
     ∙ sym (times-commute Block gamma gamma-block alpha alpha-gamma k (times beta j one) (times-keeps Block beta beta-block j one one-block))
     ∙ ap alpha (mask-alpha start b i j k)
+
+-- and so may beta steps: one more of them
+pub mask-beta : (start : List ℕ) → Block start → (i j k : ℕ) → beta (maskAt start i j k) ≡ maskAt start i (suc j) k
+unfolding maskAt times
+mask-beta start b i j k =
+    let one = times alpha i start in
+    times-commute Block gamma gamma-block beta beta-gamma k (times beta j one)
+    (times-keeps Block beta beta-block j one (times-keeps Block alpha alpha-block i start b))
 
 -- ---- E and D
 
@@ -57,23 +64,14 @@ E-undo n start b i j k = cipher-undo n (maskAt start i j k) (mask-block start b 
 
 -- ---- the start
 
-word-lt : (s : List ℕ) → Bytes s → (i : ℕ) → i < 16 → wordAt s i < 2 ^ 64
-unfolding blockOf
-word-lt s h i p = subst (λ (w : ℕ). w < 2 ^ 64) (getD-tab (wordAt s) 16 i p) (block-blockOf s h .words i)
-
-below-append : (m : ℕ) (s t : List ℕ) → ((i : ℕ) → getD s i 0 < m) → ((i : ℕ) → getD t i 0 < m) → (i : ℕ) → getD (s ++ t) i 0 < m
-below-append m [] t hs ht i = ht i
-below-append m (x ∷ s) t hs ht zero = hs 0
-below-append m (x ∷ s) t hs ht (suc i) = below-append m s t (λ j. hs (suc j)) ht i
-
 pub first-block : (key nonce : List ℕ) → Bytes key → Bytes nonce → Block (startBlock key nonce)
 unfolding startBlock zeros
 first-block key nonce hk hn = record {
   long = simp (length-append, length-tab);
   words = below-append (2 ^ 64) (tab (wordAt nonce) 2) (tab (λ i. 0) 10 ++ tab (wordAt key) 4)
-      (below-tab (wordAt nonce) 2 (2 ^ 64) (lit< tt) (λ i p. word-lt nonce hn i (omega arith)))
+      (below-tab (wordAt nonce) 2 (2 ^ 64) (lit< tt) (λ i p. wordAt-lt nonce i hn))
       (below-append (2 ^ 64) (tab (λ i. 0) 10) (tab (wordAt key) 4) (below-tab (λ i. 0) 10 (2 ^ 64) (lit< tt) (λ i p. lit< tt))
-      (below-tab (wordAt key) 4 (2 ^ 64) (lit< tt) (λ i p. word-lt key hk i (omega arith))));
+      (below-tab (wordAt key) 4 (2 ^ 64) (lit< tt) (λ i p. wordAt-lt key i hk)));
 }
 
 pub start-block : (rounds : ℕ) (key nonce : List ℕ) → Bytes key → Bytes nonce → Block (startOf rounds key nonce)

@@ -2,7 +2,7 @@
 use mathlib.Core.Path.{_≡_, sym, ap, ap₂, _∙_}
 use mathlib.Core.List.{List, _++_}
 use Prim.Native.Nat.{ℕ}
-use Rattle.words.specs.Block.{Block, Bytes, blockOf, bytesOf, xorBlock, xorBytes}
+use Rattle.words.specs.Block.{Block, Bytes, blockOf, bytesOf, xorBytes}
 use Rattle.words.proofs.Lists.{cat-ext}
 use Rattle.words.proofs.Blocks.{length-bytesOf, bytes-bytesOf, bytes-are, bytesOf-xor, block-blockOf}
 use Rattle.mem.proofs.Laws.{xor-undo}
@@ -10,11 +10,8 @@ use Rattle.blockplan.specs.Plan.{whole, left, blockAt, ciphered}
 use Rattle.blockplan.specs.Parcel.{Lawful}
 use Rattle.blockplan.proofs.Tags.{length-tagBytes, bytes-tagBytes}
 use Rattle.blockplan.proofs.Ciphered.{length-ciphered, bytes-ciphered, ciphered-undo}
+use Rattle.mro.proofs.Streams.{xored}
 use Rattle.mro.specs.Mro.{mroTag, mroStream, streamed, mroCipher, mroMode}
-
--- a block xored with block i of a stream
-unfoldable xored : (ℕ → List ℕ) → ℕ → List ℕ → List ℕ
-xored k i b = xorBlock b (k i)
 
 -- only the stream's bytes count, so that its blocks may be taken to be well formed
 formed : (ℕ → List ℕ) → ℕ → List ℕ

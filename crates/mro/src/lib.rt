@@ -2,9 +2,8 @@
 mod stream;
 mod sums;
 
-use blockplan::tag::difference;
-use blockplan::tag::keep;
 use blockplan::tag::store_tag;
+use blockplan::tag::verify;
 use stream::load_tag;
 use stream::xor_stream;
 use sums::tag_block;
@@ -35,7 +34,5 @@ pub fn open(start: [u64; 16], rounds: u32, header: &[u8], parcel: &[u8], out: &m
     let tag = load_tag(&parcel[n..]);
     xor_stream(&parcel[..n], tag, start, rounds, out);
     let expected = tag_block(start, rounds, header, &out[..n]);
-    let differ = difference(expected, &parcel[n..]);
-    keep(out, n, differ);
-    differ == 0
+    verify(expected, parcel, out)
 }

@@ -1,28 +1,25 @@
 // Header and message summed, and the block that begins with their tag.
 use blockplan::absorb::absorb;
-use blockplan::leftover::padded;
+use blockplan::absorb::absorb_left;
 use masks::steps::beta;
 use mem::cipher::encipher;
 use words::block::xor;
 ghost use mathlib.Core.Path.{_≡_};
+ghost use mathlib.Core.Bool.{false};
 ghost use Rattle.words.specs.Block.{xorBlock};
 ghost use Rattle.mem.specs.Mem.{E};
 ghost use Rattle.blockplan.specs.Plan.{xorOver};
-ghost use Rattle.blockplan.specs.Stepped.{stepped};
+ghost use Rattle.blockplan.specs.Pass.{madeAt, under, stepping};
 ghost use Rattle.mro.specs.Mro.{blocks, mroSum, lengths};
 
 // The sum of all blocks of s, a padded one included, the first under the mask given.
 fn absorb_all(s: &[u8], first: [u64; 16], rounds: u32) -> [u64; 16]
-    ensures { λ r. ⌜ r ≡ xorOver (stepped rounds first (now (s .entry))) (blocks (now (s .entry))) ⌝ }
+    ensures { λ r. ⌜ r ≡ xorOver (madeAt (under false rounds (stepping first)) (now (s .entry))) (blocks (now (s .entry))) ⌝ }
 {
     let front = absorb(s, first, rounds);
     let sum = front.sum;
-    let at = 128 * (s.len() / 128);
-    if at == s.len() {
-        return sum;
-    }
     let mask = front.mask;
-    xor(sum, encipher(padded(&s[at..], 0), mask, rounds))
+    absorb_left(sum, s, 0, mask, rounds)
 }
 
 // The block whose first 32 bytes are the tag.

@@ -1,4 +1,2 @@
-pub mod Steps
-pub mod Sums
 pub mod Passes
 pub mod Opened

@@ -2,9 +2,8 @@
 // block to block.
 use crate::message::pass;
 use crate::tag::tag_block;
-use blockplan::tag::difference;
-use blockplan::tag::keep;
 use blockplan::tag::store_tag;
+use blockplan::tag::verify;
 ghost use mathlib.Core.Path.{_≡_};
 ghost use mathlib.Core.List.{_++_};
 ghost use Prim.Native.Nat.{_+_, _≤_};
@@ -32,7 +31,5 @@ pub fn open(start: [u64; 16], rounds: u32, header: &[u8], parcel: &[u8], out: &m
 {
     let n = parcel.len() - 32;
     let passed = pass(start, rounds, &parcel[..n], true, out);
-    let differ = difference(tag_block(start, rounds, header, passed), &parcel[n..]);
-    keep(out, n, differ);
-    differ == 0
+    verify(tag_block(start, rounds, header, passed), parcel, out)
 }

@@ -1,9 +1,9 @@
 // The sum over the header, and the block whose first 32 bytes are the tag.
+use blockplan::Summed;
 use blockplan::absorb::absorb;
-use blockplan::leftover::padded;
+use blockplan::absorb::absorb_left;
 use masks::steps::beta;
 use mem::cipher::encipher;
-use opp_blocks::Passed;
 use words::block::xor;
 ghost use mathlib.Core.Path.{_≡_};
 ghost use Rattle.words.specs.Block.{xorBlock};
@@ -15,22 +15,17 @@ ghost use Rattle.opp.specs.Opp.{oppSum};
 fn header_sum(start: [u64; 16], rounds: u32, header: &[u8]) -> [u64; 16]
     ensures { λ r. ⌜ r ≡ oppSum rounds start (now (header .entry)) ⌝ }
 {
-    let whole = absorb(header, start, rounds);
-    let sum = whole.sum;
-    let at = 128 * (header.len() / 128);
-    if at == header.len() {
-        return sum;
-    }
-    let mask = whole.mask;
-    let last = encipher(padded(&header[at..], 1), beta(mask), rounds);
-    xor(sum, last)
+    let blocks = absorb(header, start, rounds);
+    let sum = blocks.sum;
+    let mask = blocks.mask;
+    absorb_left(sum, header, 1, beta(mask), rounds)
 }
 
 // Sum, xor E of the check under a mask two beta steps on from the one that the pass ends with.
-pub fn tag_block(start: [u64; 16], rounds: u32, header: &[u8], passed: Passed) -> [u64; 16]
-    ensures { λ r. ⌜ r ≡ xorBlock (oppSum rounds start (now (header .entry))) (encipherOf rounds (betaOf (betaOf (passed .mask))) (passed .check)) ⌝ }
+pub fn tag_block(start: [u64; 16], rounds: u32, header: &[u8], passed: Summed) -> [u64; 16]
+    ensures { λ r. ⌜ r ≡ xorBlock (oppSum rounds start (now (header .entry))) (encipherOf rounds (betaOf (betaOf (passed .mask))) (passed .sum)) ⌝ }
 {
-    let check = passed.check;
+    let check = passed.sum;
     let mask = passed.mask;
     let sum = header_sum(start, rounds, header);
     xor(sum, encipher(check, beta(beta(mask)), rounds))

@@ -2,12 +2,12 @@
 use mathlib.Core.Path.{_≡_, refl, sym, ap, ap₂, _∙_, subst}
 use mathlib.Core.List.{List, [], _∷_, _++_, append-assoc, append-nil}
 use Prim.Native.Nat.{ℕ, zero, suc, _+_, _-_, _*_, _≤_, _<_}
-use native.Mathlib.Nat.{mul-suc, mul-zero, le-of-eq, mul-le-mul-left}
+use native.Mathlib.Nat.{add-zero, mul-suc, mul-zero, le-of-eq, mul-le-mul-left}
 use native.Mathlib.Numerals.{add-one}
 use native.Mathlib.Omega.{arith}
 use native.Mathlib.Decide.{decLt}
 use lib.ListN.{length, getD, take, drop, set, length-append, length-drop, List·getD-append, List·getD-eq-default, drop-of-length-le}
-use lib.Seq.{drop-drop, getD-at, take-at, drop-at, take-all, ext-getD, take-add, length-take-le, getD-take, take-suc-set, drop-cons, set-at, take-append-le, getD-set-same, getD-set-other}
+use lib.Seq.{drop-drop, getD-at, take-at, drop-at, take-all, ext-getD, take-add, length-take-le, getD-take, getD-drop, getD-append-add, take-suc-set, drop-cons, set-at, take-append-le, getD-set-same, getD-set-other}
 use borrow.Rule.Slice.PartMut.{putMid}
 use Rattle.words.specs.Sequence.{tab, cat, times, zeros}
 
@@ -150,3 +150,24 @@ extended xs t v h e j = elim (decLt j (length t)) [
 pub getD-zeros : (n i : ℕ) → getD (zeros n) i 0 ≡ 0
 unfolding zeros
 getD-zeros n i = elim (decLt i n) [ yes p ↦ getD-tab (λ j. 0) n i p | no q ↦ getD-tab-past (λ j. 0) n i (omega arith) ]
+
+-- what a list filled from the front still holds at the next place
+pub untouched : (f : ℕ → ℕ) (i : ℕ) (old xs : List ℕ) → xs ≡ tab f i ++ drop i old → getD xs i 0 ≡ getD old i 0
+untouched f i old xs e =
+    let n : length (tab f i) + 0 ≡ i = add-zero (length (tab f i)) ∙ length-tab f i in
+    ap (λ (l : List ℕ). getD l i 0) e
+    ∙ ap (λ (k : ℕ). getD (tab f i ++ drop i old) k 0) (sym n) ∙ getD-append-add (tab f i) (drop i old) 0 0
+    ∙ getD-drop i old 0 0 ∙ ap (λ (k : ℕ). getD old k 0) (add-zero i)
+
+-- the entries of both lists are below a bound, and so are those of the two joined
+pub below-append : (m : ℕ) (s t : List ℕ) → ((i : ℕ) → getD s i 0 < m) → ((i : ℕ) → getD t i 0 < m) → (i : ℕ) → getD (s ++ t) i 0 < m
+below-append m [] t hs ht i = ht i
+below-append m (x ∷ s) t hs ht zero = hs 0
+below-append m (x ∷ s) t hs ht (suc i) = below-append m s t (λ j. hs (suc j)) ht i
+
+-- a zero more at the end reads the same
+pub zero-more : (s : List ℕ) (i : ℕ) → getD (s ++ (0 ∷ [])) i 0 ≡ getD s i 0
+zero-more [] zero = refl
+zero-more [] (suc i) = refl
+zero-more (x ∷ xs) zero = refl
+zero-more (x ∷ xs) (suc i) = zero-more xs i

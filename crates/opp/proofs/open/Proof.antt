@@ -1,21 +1,20 @@
 -- The message, and behind it what was there; kept or cleared by the tag. Assumes nothing.
-use mathlib.Core.Path.{_≡_, sym, _∙_}
+use mathlib.Core.Path.{_≡_, sym}
 use mathlib.Core.Bool.{true}
 use Prim.Native.Nat.{_-_}
 use native.Mathlib.Omega.{arith}
-use lib.Dec.{eqb}
-use lib.ListN.{length, length-drop, length-take}
+use lib.ListN.{length, length-take}
 use lib.Seq.{length-take-le}
 use denote.Ref.{now}
 use Rattle.words.specs.Block.{Block, Bytes}
-use Rattle.words.proofs.Lists.{tailPart}
 use Rattle.words.proofs.Blocks.{bytes-take}
 use Rattle.masks.proofs.Arrays.{array-block}
-use Rattle.blockplan.specs.Parcel.{messageOf, genuine, cipherPart, tagPart}
-use Rattle.opp.specs.Opp.{oppMode}
-use Rattle.opp.specs.Pass.{passed, plain}
-use Rattle.blockplan.proofs.Plans.{judged}
-use Rattle.blockplan.proofs.Parcels.{opened-as}
+use Rattle.mem.specs.Mem.{D}
+use Rattle.blockplan.specs.Parcel.{messageOf, cipherPart}
+use Rattle.blockplan.specs.Pass.{under, planned}
+use Rattle.blockplan.proofs.Parcels.{opened-is}
+use Rattle.opp.specs.Opp.{openAt, oppPlain, oppMode}
+use Rattle.opp.specs.Pass.{written, plain}
 use Rattle.opp.proofs.Passes.{tag-is}
 use Rattle.opp.proofs.Opened.{opp-lawful}
 use borrow.Author.Needs.{needs}
@@ -34,42 +33,27 @@ pass-requires c κs = simp length-take (omega arith)
 tag-block-requires : tie.Need-tag-block-requires
 tag-block-requires c κs = search needs
 
-sub-difference : tie.Need-sub-difference
-sub-difference c = search needs
-
-part-difference-start : tie.Need-part-difference-start
-part-difference-start c = search needs
-
-part-difference-end : tie.Need-part-difference-end
-part-difference-end c = search needs
-
-difference-requires : tie.Need-difference-requires
-difference-requires c κs = search needs
-
-keep-requires : tie.Need-keep-requires
-keep-requires c κs = search needs
+verify-requires : tie.Need-verify-requires
+verify-requires c κs = search needs
 
 same-length : tie.Need-same-length
 same-length c = search needs
 
 returns : tie.Need-returns
-unfolding passed plain oppMode genuine messageOf cipherPart tagPart
+unfolding written plain oppMode oppPlain openAt under planned D messageOf cipherPart
 returns c =
-    let start = c .before .before .before .before .before .before .before .before .before .before .before .before .before .before .before in
+    let start = c .before .before .before .before .before .before .before .before .before .before .before .before .before in
     let a = start .args in
-    let n = length (now (a .parcel)) - 32 in
-    let s = cipherPart (now (a .parcel)) in
+    let parcel = now (a .parcel) in
+    let s = cipherPart parcel in
     let block : Block (a .start) = array-block _ _ (start .good .0) in
-    let all : Bytes (now (a .parcel)) = record { bytes = λ i. c .before .before .before .before .before .before .before .before .before .before .before .before .before .shared-slice-known2 .given i .fits } in
-    let bytes : Bytes s = bytes-take n (now (a .parcel)) all in
-    let pass = c .before .before .before .before .before .before .before .before .before .pass .ensures in
-    let tag = tag-is (a .rounds) (a .start) s block bytes true (now (a .header)) _ _ _ (pass .1 .1) (pass .1 .0) (c .before .before .before .before .before .before .tag-block .ensures) in
-    let exact : length (tagPart (now (a .parcel))) ≡ 32 = simp length-drop (omega arith) in
-    let compared = rw (tailPart n (now (a .parcel))) at (c .before .before .before .before .difference .ensures) in
-    let right = rw tag at (judged _ (tagPart (now (a .parcel))) _ exact compared) in
-    let long : length s ≡ n = length-take-le n (now (a .parcel)) (omega arith) in
-    opened-as (oppMode (a .rounds) (a .start)) (opp-lawful (a .rounds) (a .start) block) (now (a .header)) (now (a .parcel)) (now (a .out)) _ _
-    (eqb (c .before .before .before .before .difference .result) 0) (omega arith) (rw long at (pass .0)) right (c .before .before .keep .ensures)
+    let all : Bytes parcel = record { bytes = λ i. c .before .before .before .before .before .before .before .before .before .before .before .shared-slice-known2 .given i .fits } in
+    let bytes : Bytes s = bytes-take (length parcel - 32) parcel all in
+    let long : length s ≡ length parcel - 32 = length-take-le (length parcel - 32) parcel (omega arith) in
+    let pass = c .before .before .before .before .before .before .before .pass .ensures in
+    let tag = tag-is (a .rounds) (a .start) s block bytes true (now (a .header)) _ pass (c .before .before .before .before .tag-block .ensures) in
+    rw (← opened-is (oppMode (a .rounds) (a .start)) (opp-lawful (a .rounds) (a .start) block) (now (a .header)) parcel (now (a .out)) (omega arith))
+    (rw (tag, pass .all-written, long) at (c .before .before .verify .ensures))
 
 pub open-spec : {M : Type 1} → statement M
 open-spec =
@@ -79,10 +63,6 @@ open-spec =
     slice-aggregate-pass
     pass-requires
     tag-block-requires
-    sub-difference
-    part-difference-start
-    part-difference-end
-    difference-requires
-    keep-requires
+    verify-requires
     same-length
     returns)

@@ -4,8 +4,10 @@ use mathlib.Core.Bool.{false}
 use Rattle.words.specs.Block.{Block, Bytes}
 use Rattle.masks.proofs.Arrays.{array-block}
 use Rattle.blockplan.proofs.Parcels.{sealed-as}
-use Rattle.opp.specs.Opp.{oppMode}
-use Rattle.opp.specs.Pass.{passed, plain}
+use Rattle.mem.specs.Mem.{E}
+use Rattle.blockplan.specs.Pass.{under, planned}
+use Rattle.opp.specs.Opp.{oppMode, oppCipher, sealAt}
+use Rattle.opp.specs.Pass.{written, plain}
 use Rattle.opp.proofs.Passes.{tag-is}
 use Rattle.opp.proofs.Opened.{opp-lawful}
 use borrow.Author.Needs.{needs}
@@ -34,7 +36,7 @@ same-length : tie.Need-same-length
 same-length c = search needs
 
 returns : tie.Need-returns
-unfolding passed plain oppMode
+unfolding written plain oppMode oppCipher sealAt under planned E
 returns c =
     let start = c .before .before .before .before .before .before .before .before .before .before .before .before in
     let a = start .args in
@@ -42,8 +44,8 @@ returns c =
     let block : Block (a .start) = array-block _ _ (start .good .0) in
     let bytes : Bytes m = record { bytes = λ i. c .before .before .before .before .before .before .before .before .before .before .shared-slice-known2 .given i .fits } in
     let pass = c .before .before .before .before .before .before .before .pass .ensures in
-    let tag = tag-is (a .rounds) (a .start) m block bytes false (now (a .header)) _ _ _ (pass .1 .1) (pass .1 .0) (c .before .before .before .before .tag-block .ensures) in
-    sealed-as (oppMode (a .rounds) (a .start)) (opp-lawful (a .rounds) (a .start) block) (now (a .header)) m (now (a .out)) _ _ (pass .0) (rw tag at (c .before .before .store-tag .ensures))
+    let tag = tag-is (a .rounds) (a .start) m block bytes false (now (a .header)) _ pass (c .before .before .before .before .tag-block .ensures) in
+    sealed-as (oppMode (a .rounds) (a .start)) (opp-lawful (a .rounds) (a .start) block) (now (a .header)) m (now (a .out)) _ _ (pass .all-written) (rw tag at (c .before .before .store-tag .ensures))
 
 pub seal-spec : {M : Type 1} → statement M
 seal-spec =

@@ -1,16 +1,18 @@
 -- The loop's invariant: i blocks are in, and what is left is the part from block i on. Assumes nothing.
 use mathlib.Core.Path.{_≡_, refl}
-use Prim.Native.Nat.{ℕ, _+_, _*_, _-_}
+use mathlib.Core.Bool.{false}
+use Prim.Native.Nat.{ℕ, _+_, _*_}
 use native.Mathlib.Omega.{arith}
 use native.Mathlib.Nat.{zero-add}
 use lib.ListN.{length, drop, length-drop}
 use denote.Ref.{now}
 use Rattle.words.specs.Sequence.{times, fold}
-use Rattle.blockplan.proofs.Plans.{summed, whole-is}
-use Rattle.words.proofs.Lists.{tailPart, nextPart, timesed}
-use Rattle.masks.specs.Steps.{alpha}
+use Rattle.words.proofs.Lists.{tailPart, nextPart}
 use Rattle.blockplan.specs.Plan.{whole, blockAt, xorOver}
-use Rattle.blockplan.specs.Stepped.{stepped}
+use Rattle.blockplan.specs.Pass.{madeAt, under, stepping}
+use Rattle.blockplan.proofs.Leftovers.{whole-is}
+use Rattle.blockplan.proofs.Sums.{summed}
+use Rattle.blockplan.proofs.Passes.{stepping-on}
 use borrow.Author.Needs.{needs}
 use Rattle.blockplan.proofs.absorb.absorb.Statement.{statement}
 use Rattle.blockplan.proofs.absorb.absorb.Tie as tie
@@ -18,7 +20,7 @@ use Rattle.blockplan.proofs.absorb.absorb.Tie as tie
 abbrev Inv-loop : tie.InvT-loop
 Inv-loop s rounds rest₀ sum₀ mask₀ rest sum mask =
     (i : ℕ) × ((128 * i + length rest ≡ length s) × ((rest ≡ drop (128 * i) s)
-    × ((sum ≡ xorOver (stepped rounds mask₀ s) i) × (mask ≡ times alpha i mask₀))))
+    × ((sum ≡ xorOver (madeAt (under false rounds (stepping mask₀)) s) i) × (mask ≡ stepping mask₀ i))))
 
 abbrev μ-loop : tie.MeasureT-loop
 μ-loop s rounds rest₀ sum₀ mask₀ rest sum mask = length rest
@@ -27,7 +29,7 @@ zero-requires : tie.Need-zero-requires Inv-loop μ-loop
 zero-requires c κs = search needs
 
 loop-holds : tie.Need-loop-holds Inv-loop μ-loop
-unfolding xorOver fold times
+unfolding xorOver fold stepping times
 loop-holds c = (0, (zero-add (length (now (c .before .before .args .s))), (refl, (c .zero .ensures, refl))))
 
 load-requires : tie.Need-load-requires Inv-loop μ-loop
@@ -57,7 +59,7 @@ loop-less c =
     rw (tailPart 128 rest) (simp length-drop (omega arith))
 
 loop-again : tie.Need-loop-again Inv-loop μ-loop
-unfolding stepped blockAt
+unfolding madeAt under blockAt
 loop-again c =
     let at = c .before .before .before .before .before .before .loop in
     let i = at .inv .0 in
@@ -71,7 +73,7 @@ loop-again c =
           (
             summed _ i (at .sum) _ (at .inv .1 .1 .1 .0)
                 (rw (c .before .before .xor .ensures, c .before .before .before .encipher .ensures, c .before .before .before .before .load .ensures, at .inv .1 .1 .1 .1, at .inv .1 .1 .0)),
-            timesed alpha _ i (at .mask) _ (at .inv .1 .1 .1 .1) (c .before .alpha .ensures),
+            stepping-on _ (at .mask) _ i (at .inv .1 .1 .1 .1) (c .before .alpha .ensures),
           ),
         ),
       ),

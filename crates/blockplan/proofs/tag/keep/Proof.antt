@@ -8,8 +8,8 @@ use mathlib.Core.Bool.{cond}
 use lib.Dec.{eqb}
 use lib.Bits.{bitAnd}
 use Rattle.words.specs.Sequence.{tab}
-use Rattle.words.proofs.Lists.{placed}
-use Rattle.blockplan.proofs.Plans.{keptAt, masked, untouched, kept}
+use Rattle.words.proofs.Lists.{placed, untouched}
+use Rattle.blockplan.proofs.Kept.{keptAt, masked, kept}
 use borrow.Author.Needs.{needs}
 use Rattle.blockplan.proofs.tag.keep.Statement.{statement}
 use Rattle.blockplan.proofs.tag.keep.Tie as tie

@@ -1,5 +1,5 @@
 -- The byte's bits or'ed into the lowest one, as a law has it for each byte. Assumes nothing.
-use Rattle.blockplan.proofs.Plans.{orUp, maskOf, mask-is}
+use Rattle.blockplan.proofs.Kept.{orUp, maskOf, mask-is}
 use borrow.Author.Needs.{needs}
 use Rattle.blockplan.proofs.tag.mask_of.Statement.{statement}
 use Rattle.blockplan.proofs.tag.mask_of.Tie as tie

@@ -5,16 +5,20 @@ use Prim.Native.Nat.{_*_, _-_, _/_, _≤_}
 use native.Mathlib.Omega.{arith}
 use lib.ListN.{length, drop, length-drop}
 use denote.Ref.{now}
-use Rattle.words.specs.Sequence.{cat}
+use Rattle.words.specs.Sequence.{cat, times}
 use Rattle.words.proofs.Lists.{appended, tailPart}
+use Rattle.mem.specs.Mem.{maskAt, E}
 use Rattle.blockplan.specs.Plan.{whole, left, blockAt, tagBytes}
-use Rattle.mro.proofs.Streams.{writtenAt, length-writtenAt, streamed-left, streamed-none}
+use Rattle.blockplan.specs.Pass.{madeAt, bytesAt}
+use Rattle.blockplan.proofs.Ciphered.{length-bytesAt, written-whole, written-left}
+use Rattle.mro.specs.Mro.{mroStream, streamed, mroCipher}
+use Rattle.mro.proofs.Streams.{streamAt, xored}
 use borrow.Author.Needs.{needs}
 use Rattle.mro.proofs.stream.xor_stream.Statement.{statement}
 use Rattle.mro.proofs.stream.xor_stream.Tie as tie
 
 abbrev Inv-loop : tie.InvT-loop
-Inv-loop s tag rounds out₀ mask n i₀ out i = (i ≤ n) × ((n ≡ length s / 128) × ((length out ≡ length out₀) × (out ≡ cat (writtenAt rounds mask (tagBytes tag) s) i ++ drop (128 * i) out₀)))
+Inv-loop s tag rounds out₀ mask n i₀ out i = (i ≤ n) × ((n ≡ length s / 128) × ((length out ≡ length out₀) × (out ≡ cat (bytesAt (xored (streamAt rounds mask (tagBytes tag))) s) i ++ drop (128 * i) out₀)))
 
 abbrev μ-loop : tie.MeasureT-loop
 μ-loop s tag rounds out₀ mask n i₀ out i = n - i
@@ -66,7 +70,7 @@ loop-less : tie.Need-loop-less Inv-loop μ-loop
 loop-less c = search needs
 
 loop-again : tie.Need-loop-again Inv-loop μ-loop
-unfolding writtenAt blockAt
+unfolding bytesAt madeAt xored streamAt blockAt
 loop-again c =
     let at = c .before .before .before .before .before .before .before .before .before .loop in
     let start = c .before .before .before .before .before .before .before .before .before .before .before .before .before in
@@ -76,7 +80,7 @@ loop-again c =
         refl,
         (
           omega (arith, c .before .out .given .1),
-          appended _ 128 (at .i) _ (at .out) (c .before .before .store .last .1 .0) (length-writtenAt _ _ _ s) (omega arith) (at .inv .1 .1 .1)
+          appended _ 128 (at .i) _ (at .out) (c .before .before .store .last .1 .0) (length-bytesAt (xored (streamAt _ _ _)) s) (omega arith) (at .inv .1 .1 .1)
               (rw (c .before .before .before .before .xor .ensures, c .before .before .before .before .before .stream-block .ensures, c .before .before .before .before .before .before .load .ensures, tailPart (128 * at .i) s) at (c .before .before .store .ensures)),
         ),
       ),
@@ -116,27 +120,30 @@ same-length : tie.Need-same-length Inv-loop μ-loop
 same-length c = search needs
 
 returns : tie.Need-returns Inv-loop μ-loop
-unfolding whole left
+unfolding whole left mroCipher streamed mroStream E maskAt times xored streamAt
 returns c =
-    let start = c .before .before .before .before .before .before .before .before .before .before .before .before in
+    let a = c .before .before .before .before .before .before .before .before .before .before .before .before .args in
     let at = c .before .before .before .before .before .before .before .before .loop in
-    let s = now (start .args .s) in
+    let mask = c .before .before .before .before .before .before .before .before .before .gamma in
+    let s = now (a .s) in
+    let k = streamAt (a .rounds) (mask .result) (tagBytes (a .tag)) in
     let e : at .i ≡ length s / 128 = omega arith in
-    streamed-left _ (start .args .start) _ _ s _ (at .out) _ _ (c .before .before .before .before .before .before .before .before .before .gamma .ensures)
-    (rw e at (at .inv .1 .1 .1)) (c .before .before .before .before .stream-block2 .ensures)
-    (rw (tailPart (128 * (length s / 128)) s) at (c .before .before .xor-leftover .ensures))
+    let rest = rw (tailPart (128 * whole s) s, c .before .before .before .before .stream-block2 .ensures) at (c .before .before .xor-leftover .ensures) in
+    rw (mask .ensures) at (written-left (xored k) k s (now (a .out)) (at .out) (rw e at (at .inv .1 .1 .1)) _ rest)
 
 same-length-2 : tie.Need-same-length-2 Inv-loop μ-loop
 same-length-2 c = search needs
 
 returns-2 : tie.Need-returns-2 Inv-loop μ-loop
-unfolding whole
+unfolding whole mroCipher streamed mroStream E maskAt times xored streamAt
 returns-2 c =
+    let a = c .before .before .before .before .before .before .args in
     let at = c .before .before .loop in
-    let start = c .before .before .before .before .before .before in
-    let s = now (start .args .s) in
+    let mask = c .before .before .before .gamma in
+    let s = now (a .s) in
+    let k = streamAt (a .rounds) (mask .result) (tagBytes (a .tag)) in
     let e : at .i ≡ length s / 128 = omega arith in
-    streamed-none _ (start .args .start) _ _ s _ (at .out) (c .before .before .before .gamma .ensures) (omega arith) (rw e at (at .inv .1 .1 .1))
+    rw (mask .ensures) at (written-whole (xored k) k s (now (a .out)) (at .out) (rw e at (at .inv .1 .1 .1)) (omega arith))
 
 pub xor-stream-spec : {M : Type 1} → statement M
 xor-stream-spec =

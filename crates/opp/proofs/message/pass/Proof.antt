@@ -8,7 +8,7 @@ use Rattle.words.specs.Block.{Block, Bytes}
 use Rattle.words.proofs.Lists.{tailPart}
 use Rattle.masks.proofs.Arrays.{array-block}
 use Rattle.blockplan.specs.Plan.{whole, left}
-use Rattle.opp.proofs.Passes.{whole-written, whole-check, whole-mask, left-written, left-check, left-mask}
+use Rattle.opp.proofs.Passes.{blocks-planned, all-whole, all-left}
 use borrow.Author.Needs.{needs}
 use Rattle.opp.proofs.message.pass.Statement.{statement}
 use Rattle.opp.proofs.message.pass.Tie as tie
@@ -33,14 +33,8 @@ returns c =
     let s = now (a .s) in
     let block : Block (a .start) = array-block _ _ (start .good .0) in
     let bytes : Bytes s = record { bytes = λ i. c .before .before .before .before .before .before .before .shared-slice-known .given i .fits } in
-    let blocks = rw (c .before .before .before .before .before .gamma .ensures) at (c .before .before .before .pass-blocks .ensures) in
-    let e : 128 * whole s ≡ length s = omega arith in (
-      whole-written (a .rounds) (a .start) s block bytes (a .opening) e (now (a .out)) _ (blocks .0),
-      (
-        whole-check (a .rounds) (a .start) s block bytes (a .opening) e _ (blocks .1 .0),
-        whole-mask (a .rounds) (a .start) s block bytes (a .opening) e _ (blocks .1 .1),
-      ),
-    )
+    let blocks = blocks-planned (a .rounds) (a .start) s block (a .opening) (rw (c .before .before .before .before .before .gamma .ensures) at (c .before .before .before .pass-blocks .ensures)) in
+    all-whole (a .rounds) (a .start) s block bytes (a .opening) (now (a .out)) _ _ _ blocks (omega arith)
 
 sub-pass-leftover : tie.Need-sub-pass-leftover
 sub-pass-leftover c = search needs
@@ -74,15 +68,11 @@ returns-2 c =
     let s = now (a .s) in
     let block : Block (a .start) = array-block _ _ (start .good .0) in
     let bytes : Bytes s = record { bytes = λ i. c .before .before .before .before .before .before .before .before .before .before .before .before .shared-slice-known .given i .fits } in
-    let blocks = rw (c .before .before .before .before .before .before .before .before .before .before .gamma .ensures) at (c .before .before .before .before .before .before .before .before .pass-blocks .ensures) in
+    let blocks = blocks-planned (a .rounds) (a .start) s block (a .opening)
+    (rw (c .before .before .before .before .before .before .before .before .before .before .gamma .ensures) at (c .before .before .before .before .before .before .before .before .pass-blocks .ensures)) in
     let q : 128 * whole s ≡ length s → ⊥ = λ e. c .before .before .before .before .before .if1 .left (omega arith) in
-    let rest = rw (blocks .1 .0, blocks .1 .1, tailPart (128 * whole s) s) at (c .before .before .pass-leftover .ensures) in (
-      left-written (a .rounds) (a .start) s block bytes (a .opening) q (now (a .out)) _ _ (blocks .0) (rest .0),
-      (
-        left-check (a .rounds) (a .start) s block bytes (a .opening) q _ (rest .1 .0),
-        left-mask (a .rounds) (a .start) s block bytes (a .opening) q _ (rest .1 .1),
-      ),
-    )
+    let rest = rw (tailPart (128 * whole s) s) at (c .before .before .pass-leftover .ensures) in
+    all-left (a .rounds) (a .start) s block bytes (a .opening) (now (a .out)) _ _ _ blocks _ _ _ q (rest .0) (rest .1 .0) (rest .1 .1)
 
 pub pass-spec : {M : Type 1} → statement M
 pass-spec =

@@ -48,7 +48,7 @@ returns c =
     let put = rw stream at (c .before .before .before .before .before .before .xor-leftover .ensures) in
     let front = ap (take (length s)) put ∙ take-at _ _ (length s) (length-xorBytes s _) in
     let last = rw front at (c .before .before .padded-plain .ensures) in
-    (put, (c .xor .ensures ∙ ap (xorBlock (a .blocks .check)) last, mask))
+    (put, (c .xor .ensures ∙ ap (xorBlock (a .blocks .sum)) last, mask))
 
 pub pass-leftover-spec : {M : Type 1} → statement M
 pass-leftover-spec =

@@ -29,7 +29,7 @@ returns c =
     let a = c .before .before .before .before .before .before .before .before .args in
     let mask = c .before .before .beta2 .ensures ∙ ap beta (c .before .before .before .beta .ensures) in
     c .xor .ensures
-    ∙ ap₂ xorBlock (c .before .before .before .before .header-sum .ensures) (c .before .encipher .ensures ∙ ap (λ (m : List ℕ). encipher (a .rounds) m (a .passed .check)) mask)
+    ∙ ap₂ xorBlock (c .before .before .before .before .header-sum .ensures) (c .before .encipher .ensures ∙ ap (λ (m : List ℕ). encipher (a .rounds) m (a .passed .sum)) mask)
 
 pub tag-block-spec : {M : Type 1} → statement M
 tag-block-spec =

@@ -1,36 +1,32 @@
--- The loop's invariant: i blocks are written, the other bytes are as they were, the check has i blocks, and the mask is i steps on. Assumes nothing.
-use mathlib.Core.Bool.{true}
+-- One block more in each turn. Assumes nothing.
 use mathlib.Core.Path.{_≡_, refl}
-use mathlib.Core.List.{_++_}
-use Prim.Native.Nat.{_/_, _*_, _-_, _≤_}
+use mathlib.Core.Bool.{true}
+use Prim.Native.Nat.{_/_, _*_, _-_}
 use native.Mathlib.Omega.{arith}
-use lib.ListN.{length, drop}
+use lib.ListN.{length}
 use denote.Ref.{now}
-use Rattle.words.specs.Sequence.{cat, fold, times}
-use Rattle.words.proofs.Lists.{appended, tailPart, timesed}
-use Rattle.masks.specs.Steps.{alpha}
-use Rattle.blockplan.specs.Plan.{whole, blockAt, xorOver}
-use Rattle.blockplan.proofs.Plans.{summed}
-use Rattle.opp_blocks.specs.Pass.{transformed, transformedAt, bytesAt, plainAt}
-use Rattle.opp_blocks.proofs.Passes.{length-bytesAt}
+use Rattle.words.specs.Sequence.{times}
+use Rattle.words.proofs.Lists.{tailPart}
+use Rattle.blockplan.specs.Plan.{whole, blockAt}
+use Rattle.blockplan.specs.Pass.{madeAt, bytesAt, plainAt, under, stepping}
+use Rattle.blockplan.proofs.Passes.{stepping-on, passed-none, passed-one}
+use Rattle.opp_blocks.proofs.Running.{Running}
 use borrow.Author.Needs.{needs}
 use Rattle.opp_blocks.proofs.opening.open_blocks.Statement.{statement}
 use Rattle.opp_blocks.proofs.opening.open_blocks.Tie as tie
 
 abbrev Inv-loop : tie.InvT-loop
-Inv-loop rounds s out₀ check₀ mask₀ count i₀ out check mask i =
-    (i ≤ count) × ((count ≡ length s / 128) × ((length out ≡ length out₀) × ((out ≡ cat (bytesAt true rounds mask₀ s) i ++ drop (128 * i) out₀)
-    × ((check ≡ xorOver (plainAt true rounds mask₀ s) i) × (mask ≡ times alpha i mask₀)))))
+Inv-loop rounds s out₀ sum₀ mask₀ count i₀ out sum mask i = Running true rounds mask₀ s out₀ count out sum mask i
 
 abbrev μ-loop : tie.MeasureT-loop
-μ-loop rounds s out₀ check₀ mask₀ count i₀ out check mask i = count - i
+μ-loop rounds s out₀ sum₀ mask₀ count i₀ out sum mask i = count - i
 
 zero-requires : tie.Need-zero-requires Inv-loop μ-loop
 zero-requires c κs = search needs
 
 loop-holds : tie.Need-loop-holds Inv-loop μ-loop
-unfolding cat xorOver fold times
-loop-holds c = (search needs, (refl, (refl, (refl, (c .zero .ensures, refl)))))
+unfolding stepping times
+loop-holds c = record { within = search needs; count-is = refl; long = refl; passed = passed-none true _ (stepping _) _ _ _ (c .zero .ensures) }
 
 mul-at : tie.Need-mul-at Inv-loop μ-loop
 mul-at c = search needs
@@ -66,27 +62,18 @@ loop-less : tie.Need-loop-less Inv-loop μ-loop
 loop-less c = search needs
 
 loop-again : tie.Need-loop-again Inv-loop μ-loop
-unfolding bytesAt plainAt transformedAt transformed blockAt
+unfolding bytesAt plainAt madeAt under blockAt
 loop-again c =
     let at = c .before .before .before .before .before .before .before .loop in
     let a = c .before .before .before .before .before .before .before .before .before .before .before .args in
     let one = c .before .before .before .open-block in
-    let here = rw (tailPart (128 * at .i) (now (a .s)), at .inv .1 .1 .1 .1 .1) at (one .ensures) in (
-      omega arith,
-      (
-        refl,
-        (
-          omega (arith, c .before .before .out .given .1),
-          (
-            appended _ 128 (at .i) _ _ (one .last .1 .1 .1 .1 .0) (length-bytesAt true (a .rounds) (a .first) (now (a .s))) (omega arith) (at .inv .1 .1 .1 .0) (here .0),
-            (
-              summed _ (at .i) (at .check) _ (at .inv .1 .1 .1 .1 .0) (here .1),
-              timesed alpha _ (at .i) (at .mask) _ (at .inv .1 .1 .1 .1 .1) (c .alpha .ensures),
-            ),
-          ),
-        ),
-      ),
-    )
+    let here = rw (tailPart (128 * at .i) (now (a .s)), at .inv .passed .reached) at (one .ensures) in
+    let step = stepping-on (a .first) (at .mask) _ (at .i) (at .inv .passed .reached) (c .alpha .ensures) in record {
+      within = omega arith;
+      count-is = refl;
+      long = omega (arith, c .before .before .out .given .1);
+      passed = passed-one true (a .rounds) (stepping (a .first)) (now (a .s)) (at .i) (now (a .out)) _ _ (at .sum) _ (at .mask) _ (omega arith) (at .inv .passed) (here .0) (here .1) step;
+    }
 
 same-length : tie.Need-same-length Inv-loop μ-loop
 same-length c = search needs
@@ -97,8 +84,7 @@ returns c =
     let at = c .before .loop in
     let s = now (c .before .before .before .before .before .args .s) in
     let e : at .i ≡ length s / 128 = omega arith in
-    let done = rw e at (at .inv .1 .1 .1) in
-    done
+    rw e at (at .inv .passed)
 
 pub open-blocks-spec : {M : Type 1} → statement M
 open-blocks-spec =

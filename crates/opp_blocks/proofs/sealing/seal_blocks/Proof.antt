@@ -1,38 +1,34 @@
--- The loop's invariant: i blocks are written, the other bytes are as they were, the check has i blocks, and the mask is i steps on. Assumes nothing.
-use mathlib.Core.Bool.{false}
+-- Two blocks more in each turn, and one at the end where their number is odd. Assumes nothing.
 use mathlib.Core.Path.{_≡_, refl}
-use mathlib.Core.List.{_++_}
-use Prim.Native.Nat.{_/_, _*_, _+_, _-_, _≤_}
+use mathlib.Core.Bool.{false}
+use Prim.Native.Nat.{_/_, _*_, _+_, _-_}
 use native.Mathlib.Omega.{arith}
-use lib.ListN.{length, drop}
+use lib.ListN.{length}
 use lib.Seq.{drop-drop}
 use denote.Ref.{now}
-use Rattle.words.specs.Sequence.{cat, fold, times}
-use Rattle.words.proofs.Lists.{appended, tailPart, timesed}
-use Rattle.masks.specs.Steps.{alpha}
-use Rattle.blockplan.specs.Plan.{whole, blockAt, xorOver}
-use Rattle.blockplan.proofs.Plans.{summed}
-use Rattle.opp_blocks.specs.Pass.{transformed, transformedAt, bytesAt, plainAt}
-use Rattle.opp_blocks.proofs.Passes.{length-bytesAt}
-use Rattle.opp_blocks.proofs.Pairs.{appended-two, summed-two, timesed-two}
+use Rattle.words.specs.Sequence.{times}
+use Rattle.words.proofs.Lists.{tailPart}
+use Rattle.blockplan.specs.Plan.{whole, blockAt}
+use Rattle.blockplan.specs.Pass.{madeAt, bytesAt, plainAt, under, stepping}
+use Rattle.blockplan.proofs.Passes.{stepping-on, passed-none, passed-one}
+use Rattle.opp_blocks.proofs.Running.{Running}
+use Rattle.opp_blocks.proofs.Pairs.{passed-two}
 use borrow.Author.Needs.{needs}
 use Rattle.opp_blocks.proofs.sealing.seal_blocks.Statement.{statement}
 use Rattle.opp_blocks.proofs.sealing.seal_blocks.Tie as tie
 
 abbrev Inv-loop : tie.InvT-loop
-Inv-loop rounds s out₀ check₀ mask₀ count i₀ out check mask i =
-    (i ≤ count) × ((count ≡ length s / 128) × ((length out ≡ length out₀) × ((out ≡ cat (bytesAt false rounds mask₀ s) i ++ drop (128 * i) out₀)
-    × ((check ≡ xorOver (plainAt false rounds mask₀ s) i) × (mask ≡ times alpha i mask₀)))))
+Inv-loop rounds s out₀ sum₀ mask₀ count i₀ out sum mask i = Running false rounds mask₀ s out₀ count out sum mask i
 
 abbrev μ-loop : tie.MeasureT-loop
-μ-loop rounds s out₀ check₀ mask₀ count i₀ out check mask i = count - i
+μ-loop rounds s out₀ sum₀ mask₀ count i₀ out sum mask i = count - i
 
 zero-requires : tie.Need-zero-requires Inv-loop μ-loop
 zero-requires c κs = search needs
 
 loop-holds : tie.Need-loop-holds Inv-loop μ-loop
-unfolding cat xorOver fold times
-loop-holds c = (search needs, (refl, (refl, (refl, (c .zero .ensures, refl)))))
+unfolding stepping times
+loop-holds c = record { within = search needs; count-is = refl; long = refl; passed = passed-none false _ (stepping _) _ _ _ (c .zero .ensures) }
 
 add-loop : tie.Need-add-loop Inv-loop μ-loop
 add-loop c = search needs
@@ -74,29 +70,20 @@ loop-less : tie.Need-loop-less Inv-loop μ-loop
 loop-less c = search needs
 
 loop-again : tie.Need-loop-again Inv-loop μ-loop
-unfolding bytesAt plainAt transformedAt transformed blockAt
+unfolding bytesAt plainAt madeAt under blockAt
 loop-again c =
     let at = c .before .before .before .before .before .before .before .before .loop in
     let a = c .before .before .before .before .before .before .before .before .before .before .before .before .args in
-    let next = timesed alpha _ (at .i) (at .mask) _ (at .inv .1 .1 .1 .1 .1) (c .before .before .before .before .before .before .alpha .ensures) in
     let two = c .before .before .before .seal-pair in
     let far : 128 * at .i + 128 ≡ 128 * (at .i + 1) = omega arith in
-    let here = rw (tailPart (128 * at .i) (now (a .s)), drop-drop, far, next, at .inv .1 .1 .1 .1 .1) at (two .ensures) in (
-      omega arith,
-      (
-        refl,
-        (
-          omega (arith, c .before .before .out .given .1),
-          (
-            appended-two (at .i) _ 128 _ _ (two .last .1 .1 .1 .1 .1 .0) (length-bytesAt false (a .rounds) (a .first) (now (a .s))) (at .inv .1 .1 .1 .0) (here .0),
-            (
-              summed-two (at .i) _ (at .check) _ (at .inv .1 .1 .1 .1 .0) (here .1),
-              timesed-two (at .i) alpha _ (at .mask) _ _ (at .inv .1 .1 .1 .1 .1) (c .before .before .before .before .before .before .alpha .ensures) (c .alpha2 .ensures),
-            ),
-          ),
-        ),
-      ),
-    )
+    let next = stepping-on (a .first) (at .mask) _ (at .i) (at .inv .passed .reached) (c .before .before .before .before .before .before .alpha .ensures) in
+    let here = rw (tailPart (128 * at .i) (now (a .s)), drop-drop, far, next, at .inv .passed .reached) at (two .ensures) in
+    let step = stepping-on (a .first) _ _ (at .i + 1) next (c .alpha2 .ensures) in record {
+      within = omega arith;
+      count-is = refl;
+      long = omega (arith, c .before .before .out .given .1);
+      passed = passed-two (at .i) false (a .rounds) (stepping (a .first)) (now (a .s)) (now (a .out)) _ _ (at .sum) _ (at .mask) _ (at .inv .passed) (here .0) (here .1) step;
+    }
 
 same-length : tie.Need-same-length Inv-loop μ-loop
 same-length c = search needs
@@ -107,8 +94,7 @@ returns c =
     let at = c .before .before .loop in
     let s = now (c .before .before .before .before .before .before .args .s) in
     let e : at .i ≡ length s / 128 = omega arith in
-    let done = rw e at (at .inv .1 .1 .1) in
-    done
+    rw e at (at .inv .passed)
 
 mul-at-2 : tie.Need-mul-at-2 Inv-loop μ-loop
 mul-at-2 c = search needs
@@ -141,17 +127,15 @@ same-length-2 : tie.Need-same-length-2 Inv-loop μ-loop
 same-length-2 c = search needs
 
 returns-2 : tie.Need-returns-2 Inv-loop μ-loop
-unfolding whole bytesAt plainAt transformedAt transformed blockAt
+unfolding whole bytesAt plainAt madeAt under blockAt
 returns-2 c =
     let at = c .before .before .before .before .before .before .before .before .loop in
     let a = c .before .before .before .before .before .before .before .before .before .before .before .before .args in
     let one = c .before .before .before .seal-block in
-    let here = rw (tailPart (128 * at .i) (now (a .s)), at .inv .1 .1 .1 .1 .1) at (one .ensures) in
+    let here = rw (tailPart (128 * at .i) (now (a .s)), at .inv .passed .reached) at (one .ensures) in
+    let step = stepping-on (a .first) (at .mask) _ (at .i) (at .inv .passed .reached) (c .alpha3 .ensures) in
     let e : at .i + 1 ≡ length (now (a .s)) / 128 = omega arith in
-    let written = rw e at (appended _ 128 (at .i) _ _ (one .last .1 .1 .1 .1 .0) (length-bytesAt false (a .rounds) (a .first) (now (a .s))) (omega arith) (at .inv .1 .1 .1 .0) (here .0)) in
-    let check = rw e at (summed _ (at .i) (at .check) _ (at .inv .1 .1 .1 .1 .0) (here .1)) in
-    let mask = rw e at (timesed alpha _ (at .i) (at .mask) _ (at .inv .1 .1 .1 .1 .1) (c .alpha3 .ensures)) in
-    (written, (check, mask))
+    rw e at (passed-one false (a .rounds) (stepping (a .first)) (now (a .s)) (at .i) (now (a .out)) _ _ (at .sum) _ (at .mask) _ (omega arith) (at .inv .passed) (here .0) (here .1) step)
 
 pub seal-blocks-spec : {M : Type 1} → statement M
 seal-blocks-spec =

@@ -1,0 +1,56 @@
+-- The bits that differ decide both the answer and what stays. Assumes nothing.
+use mathlib.Core.Path.{_≡_}
+use Prim.Native.Nat.{_-_}
+use native.Mathlib.Omega.{arith}
+use lib.ListN.{length, length-drop}
+use denote.Ref.{now}
+use Rattle.words.proofs.Lists.{tailPart}
+use Rattle.blockplan.specs.Parcel.{tagPart}
+use Rattle.blockplan.specs.Compare.{verified}
+use Rattle.blockplan.proofs.Compared.{judged}
+use borrow.Author.Needs.{needs}
+use Rattle.blockplan.proofs.tag.verify.Statement.{statement}
+use Rattle.blockplan.proofs.tag.verify.Tie as tie
+
+sub-n : tie.Need-sub-n
+sub-n c = search needs
+
+sub-difference : tie.Need-sub-difference
+sub-difference c = search needs
+
+part-difference-start : tie.Need-part-difference-start
+part-difference-start c = search needs
+
+part-difference-end : tie.Need-part-difference-end
+part-difference-end c = search needs
+
+difference-requires : tie.Need-difference-requires
+difference-requires c κs = search needs
+
+keep-requires : tie.Need-keep-requires
+keep-requires c κs = search needs
+
+same-length : tie.Need-same-length
+same-length c = search needs
+
+returns : tie.Need-returns
+unfolding verified tagPart
+returns c =
+    let a = c .before .before .before .before .before .before .before .before .args in
+    let parcel = now (a .parcel) in
+    let exact : length (tagPart parcel) ≡ 32 = simp length-drop (omega arith) in
+    let differ = rw (tailPart (length parcel - 32) parcel) at (c .before .before .before .before .difference .ensures) in
+    rw (← judged (a .expected) (tagPart parcel) _ exact differ, c .before .before .keep .ensures)
+
+pub verify-spec : {M : Type 1} → statement M
+verify-spec =
+    tie.close
+    (tie.spec
+    sub-n
+    sub-difference
+    part-difference-start
+    part-difference-end
+    difference-requires
+    keep-requires
+    same-length
+    returns)
