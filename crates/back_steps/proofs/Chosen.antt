@@ -10,11 +10,11 @@ use native.Mathlib.Decide.{decLt}
 use lib.Dec.{eqb, lit<}
 use lib.ListN.{length, getD, List·getD-eq-default}
 use lib.Pow.{pow-pos, pow-lt, pow-add, shl-shr}
-use lib.Bits.{bitXor, xor-lt, xor-self, xor-zero-r, xor-shr, xor-mod}
+use lib.Bits.{bitXor, xor-lt, xor-self, xor-zero-l, xor-zero-r, xor-shr, xor-mod}
 use Rattle.words.proofs.Truth.{allBelow, equal-below}
 use Rattle.words.proofs.Xor.{Digit, off, on, digit, xor-swap}
+use Rattle.words.proofs.Linear.{OnWord, zero-kept}
 use Rattle.back_steps.specs.BackSteps.{chosen}
-use Rattle.masks.proofs.Linear.{OnWord, zero-kept}
 
 -- ---- a word times a bit
 
@@ -85,6 +85,30 @@ module _ (t : List ℕ) (small : (i : ℕ) → getD t i 0 < 2 ^ 64) (at step : �
     | no q ↦ let e : j ≡ n = omega arith in
         rw (e, bit-on n, below n n (omega arith), mul-one) (xor-zero-r (getD t (at + step * n) 0))
   ]
+
+-- ---- computed fast
+
+-- the word ahead of the others, where the bit is on
+unfoldable pub ahead : ℕ → ℕ → ℕ → ℕ
+ahead zero w r = r
+ahead (suc d) w r = bitXor w r
+
+-- the same choice, in which the rows of the bits that are off are not read
+unfoldable pub sparse : List ℕ → ℕ → ℕ → ℕ → ℕ → ℕ
+sparse t at step e zero = 0
+sparse t at step e (suc n) = ahead (e / 2 ^ n % 2) (getD t (at + step * n) 0) (sparse t at step e n)
+
+times-ahead : (w r d : ℕ) → Digit d → bitXor (w * d) r ≡ ahead d w r
+unfolding ahead
+times-ahead w r d off = rw mul-zero (xor-zero-l r)
+times-ahead w r d on = rw mul-one
+
+pub chosen-sparse : (t : List ℕ) (at step e n : ℕ) → chosen t at step e n ≡ sparse t at step e n
+unfolding chosen sparse
+chosen-sparse t at step e zero = refl
+chosen-sparse t at step e (suc n) = rw (chosen-sparse t at step e n) (times-ahead (getD t (at + step * n) 0) (sparse t at step e n) (e / 2 ^ n % 2) (bit e n))
+
+-- ---- small words
 
 -- the words of a table are below 2^64: one test, carried to each
 pub small-words : (t : List ℕ) → allBelow (λ i. eqb (getD t i 0 / 2 ^ 64) 0) (length t) ≡ true → (i : ℕ) → getD t i 0 < 2 ^ 64

@@ -10,7 +10,7 @@ use denote.Ref.{now}
 use Rattle.words.specs.Block.{Block, Bytes}
 use Rattle.words.proofs.Lists.{tailPart}
 use Rattle.words.proofs.Blocks.{bytes-take}
-use Rattle.masks.proofs.Arrays.{array-block}
+use Rattle.words.proofs.Arrays.{array-block}
 use Rattle.blockplan.specs.Plan.{cipherPart, tagPart}
 use Rattle.opp.specs.Opp.{oppPlain}
 use Rattle.opp.specs.Pass.{passed, plain}

@@ -3,7 +3,7 @@ use lib.ListN.{length}
 use denote.Ref.{now}
 use mathlib.Core.Bool.{false}
 use Rattle.words.specs.Block.{Block, Bytes}
-use Rattle.masks.proofs.Arrays.{array-block}
+use Rattle.words.proofs.Arrays.{array-block}
 use Rattle.opp.specs.Opp.{oppCipher, oppTag}
 use Rattle.opp.specs.Pass.{passed, plain}
 use Rattle.words.proofs.Lists.{fronted}
