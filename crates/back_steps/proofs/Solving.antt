@@ -14,7 +14,7 @@ use Rattle.words.proofs.Truth.{allBelow, equal-below}
 use Rattle.words.proofs.Linear.{OnWord, OnPair, joined, onJoined, word-id, word-xor, word-after, word-rotL, word-shl, word-same, pair-xor, pair-after, pair-same}
 use Rattle.back_steps.specs.Tables.{betaTable, gammaTable}
 use Rattle.back_steps.specs.BackSteps.{chosen, betaWord, gammaWord}
-use Rattle.back_steps.proofs.Chosen.{word-chosen, chosen-zero, chosen-unit, ahead, sparse, chosen-sparse, small-words}
+use Rattle.back_steps.proofs.Chosen.{word-chosen, chosen-zero, chosen-unit, ifOn, sparse, chosen-sparse, small-words}
 
 -- the two maps that alpha's new word is made of
 rotated : OnWord (rotL 53)
@@ -134,7 +134,7 @@ abbrev ofSides : (ℕ → ℕ → ℕ) → ℕ → ℕ → ℕ
 ofSides f x y = f (gammaX x y) (gammaY x y)
 
 gamma-test : (k : ℕ) → k < 128 → onJoined (ofSides (sparseWord 0)) (ofSides (sparseWord 1)) (2 ^ k) ≡ 2 ^ k
-unfolding gammaTable sparse ahead allBelow gammaX gammaY rotL rotR shl joined onJoined sparseWord
+unfolding gammaTable sparse ifOn allBelow gammaX gammaY rotL rotR shl joined onJoined sparseWord
 gamma-test = equal-below (λ k. onJoined (ofSides (sparseWord 0)) (ofSides (sparseWord 1)) (2 ^ k)) (λ k. 2 ^ k) 128 refl
 
 gamma-units : (k : ℕ) → k < 128 → onJoined (ofSides (gammaWord gammaTable 0)) (ofSides (gammaWord gammaTable 1)) (2 ^ k) ≡ 2 ^ k
