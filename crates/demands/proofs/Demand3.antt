@@ -14,8 +14,9 @@ use Rattle.words.proofs.Blocks.{length-bytesOf, bytes-bytesOf, block-blockOf, b
 use Rattle.answers.specs.Answers.{lineAt, line, room, checked}
 use Rattle.answers.specs.declared.Answer.{Answer}
 use Rattle.answers.specs.declared.Answer.the-variants.{Done}
-use Rattle.back_steps.specs.BackSteps.{Step}
-use Rattle.back_steps.proofs.Laws.{alpha-step, beta-step, gamma-step}
+use Rattle.words.specs.Undo.{Undo}
+use Rattle.back_steps.proofs.BackAlpha.{alpha-undo}
+use Rattle.back_steps.proofs.Undoing.{beta-undo, gamma-undo}
 use Rattle.walking.specs.Walking.{step, walked, taken, jumped, isStep, firstBad, inRange, walkChecks, jumpChecks, walkCall, jumpCall}
 use Rattle.demands.specs.Demand3.{Start, Steps, count, net, mask, Demand3}
 use Rattle.demands.proofs.Walked.{leads, walked-linear}
@@ -118,14 +119,14 @@ single k low high = record { most = lit≤ tt; low = only (λ n. 1 ≤ n) low; h
     only P p zero h = p
     only P p (suc i) h = absurd (omega arith)
 
--- the forward step of a kind and its back step
-kind-step : (kind : ℕ) → 1 ≤ kind → kind ≤ 3 → Step (step kind) (step (kind + 3))
+-- the forward step of a kind and its back step undo each other
+kind-undo : (kind : ℕ) → 1 ≤ kind → kind ≤ 3 → Undo Block (step kind) (step (kind + 3))
 unfolding step
-kind-step zero p q = absurd (omega arith)
-kind-step (suc zero) p q = alpha-step
-kind-step (suc (suc zero)) p q = beta-step
-kind-step (suc (suc (suc zero))) p q = gamma-step
-kind-step (suc (suc (suc (suc k)))) p q = absurd (omega arith)
+kind-undo zero p q = absurd (omega arith)
+kind-undo (suc zero) p q = alpha-undo
+kind-undo (suc (suc zero)) p q = beta-undo
+kind-undo (suc (suc (suc zero))) p q = gamma-undo
+kind-undo (suc (suc (suc (suc k)))) p q = absurd (omega arith)
 
 mask-step : (k : ℕ) (s : List ℕ) → 1 ≤ k → k ≤ 6 → Start s → mask s (k ∷ []) ≡ bytesOf (step k (blockOf s))
 unfolding walked
@@ -137,7 +138,7 @@ module _ (kind : ℕ) (s : List ℕ) (p : 1 ≤ kind) (q : kind ≤ 3) (a : Star
 
   before-block : Block before
   unfolding before
-  before-block = kind-step kind p q .off (blockOf s) (block s a)
+  before-block = kind-undo kind p q .back-keeps (blockOf s) (block s a)
 
   before-is : mask s ((kind + 3) ∷ []) ≡ bytesOf before
   unfolding before
@@ -149,15 +150,15 @@ module _ (kind : ℕ) (s : List ℕ) (p : 1 ≤ kind) (q : kind ≤ 3) (a : Star
       ap (λ (x : List ℕ). mask x (kind ∷ [])) before-is
       ∙ mask-step kind (bytesOf before) p (omega arith) (start-of before)
       ∙ ap (λ (b : List ℕ). bytesOf (step kind b)) (again-of before before-block)
-      ∙ ap bytesOf (kind-step kind p q .redo (blockOf s) (block s a))
+      ∙ ap bytesOf (kind-undo kind p q .forth-back (blockOf s) (block s a))
       ∙ start-bytes s a
 
   only : (t : List ℕ) → Start t → mask t (kind ∷ []) ≡ s → t ≡ mask s ((kind + 3) ∷ [])
   unfolding before
   only t b e =
       sym (start-bytes t b)
-      ∙ ap bytesOf (sym (kind-step kind p q .undo (blockOf t) (block t b)) ∙ ap (step (kind + 3))
-      (sym (again-of (step kind (blockOf t)) (kind-step kind p q .on (blockOf t) (block t b)))
+      ∙ ap bytesOf (sym (kind-undo kind p q .back-forth (blockOf t) (block t b)) ∙ ap (step (kind + 3))
+      (sym (again-of (step kind (blockOf t)) (kind-undo kind p q .forth-keeps (blockOf t) (block t b)))
       ∙ ap blockOf (sym (mask-step kind t p (omega arith) b) ∙ e)))
       ∙ sym before-is
 

@@ -1,23 +1,26 @@
--- Maps on numbers of n bits that keep exclusive or: two of them that agree at each 2^j are equal. Assumes nothing.
+-- Maps on numbers of n bits that keep exclusive or: two of them that agree at each 2^j are equal. Rotations and shifts are such maps.
+-- Assumes nothing.
 use mathlib.Core.Path.{_≡_, refl, sym, ap, ap₂, _∙_, subst}
-use Prim.Native.Nat.{ℕ, zero, suc, _+_, _*_, _/_, _%_, _^_, _≤_, _<_}
+use Prim.Native.Nat.{ℕ, zero, suc, _+_, _-_, _*_, _/_, _%_, _^_, _≤_, _<_}
 use native.Mathlib.Nat.{add-comm, zero-add, mod-lt, one-mul, zero-mul}
 use native.Mathlib.Numerals.{add-one}
 use native.Mathlib.Omega.{arith}
 use lib.Pow.{pow-pos, pow-lt, split, shr-lt, high, low}
 use lib.Arith.{digits-lt}
 use lib.Bits.{bitXor, xor-lt, xor-self, xor-shifted, xor-shr, xor-mod, xor-block}
+use Rattle.words.specs.Word.{rotL, shl}
 use Rattle.words.proofs.Xor.{Digit, off, on, digit, xor-swap}
+use Rattle.words.proofs.Words.{rotR-lt, rotR-xor, shl-lt, shl-xor}
 
 -- f keeps exclusive or of numbers of n bits
-pub record Keeps (n : ℕ) (f : ℕ → ℕ) : Type 0 where
+pub record LinearOn (n : ℕ) (f : ℕ → ℕ) : Type 0 where
   pub keeps : (x y : ℕ) → x < 2 ^ n → y < 2 ^ n → f (bitXor x y) ≡ bitXor (f x) (f y)
 
 -- zero is kept
-pub zero-kept : (n : ℕ) (f : ℕ → ℕ) → Keeps n f → f 0 ≡ 0
+pub zero-kept : (n : ℕ) (f : ℕ → ℕ) → LinearOn n f → f 0 ≡ 0
 zero-kept n f k = k .keeps 0 0 (pow-pos n) (pow-pos n) ∙ xor-self (f 0)
 
-module _ (n : ℕ) (f g : ℕ → ℕ) (kf : Keeps n f) (kg : Keeps n g) (h : (j : ℕ) → j < n → f (2 ^ j) ≡ g (2 ^ j)) where
+module _ (n : ℕ) (f g : ℕ → ℕ) (kf : LinearOn n f) (kg : LinearOn n g) (h : (j : ℕ) → j < n → f (2 ^ j) ≡ g (2 ^ j)) where
   -- the top bit and the rest
   one-more : (m d r : ℕ) → m < n → r < 2 ^ m → Digit d → f r ≡ g r → f (d * 2 ^ m + r) ≡ g (d * 2 ^ m + r)
   one-more m d r hm hr off e = rw (zero-mul (2 ^ m), zero-add r) e
@@ -63,6 +66,13 @@ word-after f g kf kg = record {
   keeps = λ x y hx hy. ap f (kg .keeps x y hx hy) ∙ kf .keeps (g x) (g y) (kg .fits x hx) (kg .fits y hy);
 }
 
+pub word-rotL : (n : ℕ) → n < 64 → OnWord (rotL n)
+unfolding rotL
+word-rotL n h = record { fits = rotR-lt (64 - n) n (omega arith); keeps = rotR-xor (64 - n) n (omega arith) }
+
+pub word-shl : (n : ℕ) → OnWord (shl n)
+word-shl n = record { fits = λ x h. shl-lt n x; keeps = λ x y hx hy. shl-xor n x y }
+
 -- a map of the first word, xor a map of the second
 pub pair-xor : (f g : ℕ → ℕ) → OnWord f → OnWord g → OnPair (λ x y. bitXor (f x) (g y))
 pair-xor f g kf kg = record {
@@ -91,7 +101,7 @@ unfoldable pub onJoined : (ℕ → ℕ → ℕ) → (ℕ → ℕ → ℕ) → �
 onJoined f g z = joined (f (z % 2 ^ 64) (z / 2 ^ 64)) (g (z % 2 ^ 64) (z / 2 ^ 64))
 
 module _ (f g : ℕ → ℕ → ℕ) (kf : OnPair f) (kg : OnPair g) where
-  keeps-joined : Keeps 128 (onJoined f g)
+  keeps-joined : LinearOn 128 (onJoined f g)
   unfolding onJoined joined
   keeps-joined = record {
     keeps = λ u v hu hv.
