@@ -15,7 +15,7 @@ use Rattle.opp.specs.Opp.{padded, headerAt, oppSum, oppCheck, oppTag, sealAt, o
 use Rattle.mro.specs.Mro.{blocks, absorbAt, mroSum, lengths, mroTag, counter, mroStream, streamed, mroCipher, mroMode}
 use Rattle.modes.specs.Modes.{modeOf}
 use Rattle.words.proofs.Truth.{allBelow, carried}
-use Rattle.blockplan.proofs.Plans.{same-true}
+use Rattle.blockplan.proofs.Compared.{same-true}
 use Rattle.known_answers.specs.KnownAnswers.{word, g, full, sealed, table, rowAt, KnownAnswers}
 
 computed : allBelow (λ i. same (rowAt i .got) (rowAt i .want)) (length table) ≡ true
