@@ -46,6 +46,15 @@ unfolding line lineAt after
 line-after true g c next = refl
 line-after false g c next = refl
 
+module _ {all : Check} (c next : Check) (e : all ≡ after c next) where
+  pub stopped : {g : Ground} {at : ℕ} → c ≡ Fails g at → all ≡ Fails g at
+  unfolding after
+  stopped q = e ∙ ap (λ (x : Check). after x next) q
+
+  pub passed-on : c ≡ Clear → all ≡ next
+  unfolding after
+  passed-on q = e ∙ ap (λ (x : Check). after x next) q
+
 pub after-clear : (c next : Check) → after c next ≡ Clear → (c ≡ Clear) × (next ≡ Clear)
 unfolding after
 after-clear Clear next e = (refl, e)

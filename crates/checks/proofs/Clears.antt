@@ -10,26 +10,17 @@ use Rattle.answers.specs.declared.Check.{Check}
 use Rattle.answers.specs.declared.Check.the-variants.{Clear, Fails}
 use Rattle.answers.specs.declared.Ground.{Ground}
 use Rattle.answers.specs.declared.Ground.the-variants.{Mode, Rounds, KeyLength, NonceLength, HeaderLength, InputLength, OutputLength, TagMissing}
-use Rattle.answers.proofs.Values.{placeOf, lineAt-lt, after, line-after, line-clear, after-clear, room-clear}
+use Rattle.answers.proofs.Values.{placeOf, lineAt-lt, after, line-after, line-clear, after-clear, passed-on, room-clear}
 use Rattle.checks.specs.Checks.{isMode, isRounds, settings, sealInputs, openInputs, sealChecks, openChecks}
 
 module _ (mode rounds key nonce header : ℕ) where
   -- the checks behind decide where those of the settings are clear
-  settings-after : (next : Check) → settings mode rounds key nonce header next ≡ after (settings mode rounds key nonce header Clear) next
+  pub settings-after : (next : Check) → settings mode rounds key nonce header next ≡ after (settings mode rounds key nonce header Clear) next
   unfolding settings after
   settings-after next = simp (← line-after)
 
   settings-clear : (next : Check) → settings mode rounds key nonce header next ≡ Clear → (settings mode rounds key nonce header Clear ≡ Clear) × (next ≡ Clear)
   settings-clear next e = after-clear (settings mode rounds key nonce header Clear) next (sym (settings-after next) ∙ e)
-
-  pub settings-fails : (next : Check) (g : Ground) (at : ℕ) → settings mode rounds key nonce header Clear ≡ Fails g at
-      → settings mode rounds key nonce header next ≡ Fails g at
-  unfolding after
-  settings-fails next g at e = settings-after next ∙ ap (λ (c : Check). after c next) e
-
-  pub settings-then : (next : Check) → settings mode rounds key nonce header Clear ≡ Clear → settings mode rounds key nonce header next ≡ next
-  unfolding after
-  settings-then next e = settings-after next ∙ ap (λ (c : Check). after c next) e
 
   settings-lengths : settings mode rounds key nonce header Clear ≡ Clear → (key ≡ 32) × (nonce ≡ 16)
   unfolding settings
@@ -43,18 +34,9 @@ module _ (mode rounds key nonce header : ℕ) where
   -- ---- seal
 
   module _ (message : ℕ) where
-    seal-after : (next : Check) → sealInputs mode rounds key nonce header message next ≡ after (sealInputs mode rounds key nonce header message Clear) next
+    pub seal-after : (next : Check) → sealInputs mode rounds key nonce header message next ≡ after (sealInputs mode rounds key nonce header message Clear) next
     unfolding sealInputs settings after
     seal-after next = simp (← line-after)
-
-    pub seal-fails : (next : Check) (g : Ground) (at : ℕ) → sealInputs mode rounds key nonce header message Clear ≡ Fails g at
-        → sealInputs mode rounds key nonce header message next ≡ Fails g at
-    unfolding after
-    seal-fails next g at e = seal-after next ∙ ap (λ (c : Check). after c next) e
-
-    pub seal-then : (next : Check) → sealInputs mode rounds key nonce header message Clear ≡ Clear → sealInputs mode rounds key nonce header message next ≡ next
-    unfolding after
-    seal-then next e = seal-after next ∙ ap (λ (c : Check). after c next) e
 
     pub seal-inputs : sealInputs mode rounds key nonce header message Clear ≡ Clear
         → (settings mode rounds key nonce header Clear ≡ Clear) × (message ≤ 65536)
@@ -75,18 +57,9 @@ module _ (mode rounds key nonce header : ℕ) where
   -- ---- open
 
   module _ (parcel : ℕ) where
-    open-after : (next : Check) → openInputs mode rounds key nonce header parcel next ≡ after (openInputs mode rounds key nonce header parcel Clear) next
+    pub open-after : (next : Check) → openInputs mode rounds key nonce header parcel next ≡ after (openInputs mode rounds key nonce header parcel Clear) next
     unfolding openInputs settings after
     open-after next = simp (← line-after)
-
-    pub open-fails : (next : Check) (g : Ground) (at : ℕ) → openInputs mode rounds key nonce header parcel Clear ≡ Fails g at
-        → openInputs mode rounds key nonce header parcel next ≡ Fails g at
-    unfolding after
-    open-fails next g at e = open-after next ∙ ap (λ (c : Check). after c next) e
-
-    pub open-then : (next : Check) → openInputs mode rounds key nonce header parcel Clear ≡ Clear → openInputs mode rounds key nonce header parcel next ≡ next
-    unfolding after
-    open-then next e = open-after next ∙ ap (λ (c : Check). after c next) e
 
     pub open-inputs : openInputs mode rounds key nonce header parcel Clear ≡ Clear
         → (settings mode rounds key nonce header Clear ≡ Clear) × ((32 ≤ parcel) × (parcel ≤ 65568))
@@ -136,11 +109,11 @@ module _ (mode rounds key nonce header : ℕ) where
   unfolding openInputs line lineAt
   parcel-inputs message e =
       let i = seal-inputs message e in
-      settings-then _ (i .0) ∙ rw (le-ltb (message + 32) 32 (omega arith), le-ltb 65568 (message + 32) (omega (arith, i .1)))
+      passed-on _ _ (settings-after _) (i .0) ∙ rw (le-ltb (message + 32) 32 (omega arith), le-ltb 65568 (message + 32) (omega (arith, i .1)))
 
   pub message-inputs : (parcel : ℕ) → openInputs mode rounds key nonce header parcel Clear ≡ Clear
       → sealInputs mode rounds key nonce header (parcel - 32) Clear ≡ Clear
   unfolding sealInputs line lineAt
   message-inputs parcel e =
       let i = open-inputs parcel e in
-      settings-then _ (i .0) ∙ rw (le-ltb 65536 (parcel - 32) (omega (arith, i .1 .1)))
+      passed-on _ _ (settings-after _) (i .0) ∙ rw (le-ltb 65536 (parcel - 32) (omega (arith, i .1 .1)))

@@ -11,6 +11,7 @@ use Rattle.words.specs.Sequence.{zeros}
 use Rattle.words.specs.Block.{Block, Bytes}
 use Rattle.words.proofs.Lists.{length-tab}
 use Rattle.answers.specs.Answers.{lineAt, line, room, checked}
+use Rattle.answers.proofs.Values.{passed-on}
 use Rattle.answers.specs.declared.Check.the-variants.{Clear}
 use Rattle.answers.specs.declared.Answer.{Answer}
 use Rattle.answers.specs.declared.Answer.the-variants.{Done}
@@ -19,7 +20,7 @@ use Rattle.mem.proofs.Laws.{start-block}
 use Rattle.blockplan.specs.Parcel.{Mode, Lawful, parcelOf, messageOf, genuine, opened}
 use Rattle.blockplan.proofs.Parcels.{parcel-long, parcel-bytes, parcel-message, parcel-genuine, message-long, message-bytes, message-parcel}
 use Rattle.checks.specs.Checks.{sealInputs, openInputs, sealChecks, openChecks}
-use Rattle.checks.proofs.Clears.{seal-then, open-then, open-inputs, parcel-inputs, message-inputs}
+use Rattle.checks.proofs.Clears.{seal-after, open-after, open-inputs, parcel-inputs, message-inputs}
 use Rattle.modes.specs.Modes.{modeOf}
 use Rattle.modes.proofs.Lawful.{mode-lawful}
 use Rattle.sealing.specs.Sealing.{verdict, sealFrom, openFrom}
@@ -45,7 +46,7 @@ module _ (start : ℕ → List ℕ → List ℕ → List ℕ) (is-block : (round
 
   seals : (message : List ℕ) → Message mode rounds key nonce header message → Seals mode rounds key nonce header start message (parcelOf m header message)
   unfolding m sealFrom sealChecks checked
-  seals message 𝓜 out h = rw (seal-then _ _ _ _ _ _ (room (length message + 32) (length out)) (𝓜 .clear), roomy (length message + 32) (length out) h)
+  seals message 𝓜 out h = rw (passed-on _ _ (seal-after _ _ _ _ _ _ (room (length message + 32) (length out))) (𝓜 .clear), roomy (length message + 32) (length out) h)
 
   module _ (parcel : List ℕ) (𝓟 : Parcel mode rounds key nonce header parcel) where
     inputs : (32 ≤ length parcel) × (length parcel ≤ 65568)
@@ -60,7 +61,7 @@ module _ (start : ℕ → List ℕ → List ℕ → List ℕ) (is-block : (round
     answers : (out : List ℕ) → length parcel - 32 ≤ length out
         → openFrom start mode rounds key nonce header parcel out ≡ verdict (length parcel - 32) (opened m header parcel out)
     unfolding m openFrom openChecks checked
-    answers out h = rw (open-then _ _ _ _ _ _ (room (length parcel - 32) (length out)) (𝓟 .clear), roomy (length parcel - 32) (length out) h)
+    answers out h = rw (passed-on _ _ (open-after _ _ _ _ _ _ (room (length parcel - 32) (length out))) (𝓟 .clear), roomy (length parcel - 32) (length out) h)
 
     opens : genuine m header parcel ≡ true → Opens mode rounds key nonce header start parcel (messageOf m parcel)
     unfolding verdict opened

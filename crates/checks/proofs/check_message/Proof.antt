@@ -5,8 +5,9 @@ use borrow.Author.Tests.{lt-ltb, le-ltb}
 use Rattle.answers.specs.Answers.{lineAt, line}
 use Rattle.answers.specs.declared.Check.the-variants.{Clear}
 use Rattle.answers.specs.declared.Ground.the-variants.{InputLength}
+use Rattle.answers.proofs.Values.{stopped, passed-on}
 use Rattle.checks.specs.Checks.{sealInputs}
-use Rattle.checks.proofs.Clears.{settings-fails, settings-then}
+use Rattle.checks.proofs.Clears.{settings-after}
 use borrow.Author.Needs.{needs}
 use Rattle.checks.proofs.check_message.Statement.{statement}
 use Rattle.checks.proofs.check_message.Tie as tie
@@ -22,14 +23,14 @@ enum-told c = search needs
 
 returns : tie.Need-returns
 unfolding sealInputs
-returns c = sym (settings-fails _ _ _ _ _ _ _ _ (sym (c .before .before .before .check-settings .ensures) ∙ c .before .found .given .1))
+returns c = sym (stopped _ _ (settings-after _ _ _ _ _ _) (sym (c .before .before .before .check-settings .ensures) ∙ c .before .found .given .1))
 
 returns-2 : tie.Need-returns-2
 unfolding sealInputs line lineAt
 returns-2 c =
     let n = c .before .before .before .before .args .message in
     sym
-    (settings-then _ _ _ _ _ (line (ltb 65536 n) InputLength Clear) (sym (c .before .before .before .check-settings .ensures) ∙ c .before .enum-told .given .1)
+    (passed-on _ _ (settings-after _ _ _ _ _ (line (ltb 65536 n) InputLength Clear)) (sym (c .before .before .before .check-settings .ensures) ∙ c .before .enum-told .given .1)
     ∙ rw (lt-ltb 65536 n (c .if1 .taken)))
 
 returns-3 : tie.Need-returns-3
@@ -37,7 +38,7 @@ unfolding sealInputs line lineAt
 returns-3 c =
     let n = c .before .before .before .before .args .message in
     sym
-    (settings-then _ _ _ _ _ (line (ltb 65536 n) InputLength Clear) (sym (c .before .before .before .check-settings .ensures) ∙ c .before .enum-told .given .1)
+    (passed-on _ _ (settings-after _ _ _ _ _ (line (ltb 65536 n) InputLength Clear)) (sym (c .before .before .before .check-settings .ensures) ∙ c .before .enum-told .given .1)
     ∙ rw (le-ltb 65536 n (c .if1 .left)))
 
 pub check-message-spec : {M : Type 1} → statement M
