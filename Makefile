@@ -1,38 +1,65 @@
-# make        the archive, the header and a pkg-config file, in dist/
-# make demo   builds what is missing and shows the main job
-# make test   the gate: proofs, must-fail edits, and the checks of the machine code
-# make bench  measures, and writes docs/BENCHMARKS.md
-.DEFAULT_GOAL := dist
-.PHONY: dist demo test bench planted tools clean
+.DEFAULT_GOAL := all
+.DELETE_ON_ERROR:
+.PHONY: all dist tool demo test bench planted install uninstall tools clean help
 
-# What the checks need beside the toolchain, by the program and its Debian package.
-tools:
-	@tools/need.sh cargo cargo
-	@tools/need.sh c++ g++
-	@tools/need.sh valgrind valgrind
+PREFIX ?= /usr/local
+DESTDIR ?=
+export PREFIX DESTDIR
+DIST := dist
+TOOL := rust/target/release/calmbaize
 
-dist:
-	@tools/need.sh rt '' && rt staticlib calmbaize >target.staticlib.log 2>&1 || { cat target.staticlib.log; rm -f target.staticlib.log; exit 1; }
-	@rm -f target.staticlib.log
-	@tools/make-dist.sh target/staticlib/libcalmbaize.a
+archive := target/staticlib/libcalmbaize.a
+# All that the proofs read; a folder is newer where a file came or went.
+sources := crates.txt $(shell find crates -name must-fail -prune -o -print)
+# One line where the prover is missing, else nothing.
+no_prover = $(shell tools/need.sh rt '' 2>&1)
+
+# make help prints what stands behind ## beside each target.
+
+all: dist $(if $(shell command -v cargo 2> /dev/null),tool) ## the default: dist, and tool where cargo is there
+
+dist: $(archive) ## proves, and leaves the archive, the header and a pkg-config file in dist/
+	@tools/make-dist.sh $(archive)
 	@echo "dist: the archive, the header and a pkg-config file are in dist/"
 
-demo: dist
+$(archive): $(sources)
+	$(if $(no_prover),$(error $(no_prover)))
+	@tools/prove.sh staticlib calmbaize
+
+tool: dist ## builds the command line tool
 	@tools/need.sh cargo cargo
 	@cd rust && cargo build --offline --release --quiet --package calmbaize-cli
-	@tools/demo.sh rust/target/release/calmbaize
+	@echo "tool: $(TOOL)"
 
-test:
+demo: tool ## builds what is missing and shows the main job
+	@tools/demo.sh $(TOOL)
+
+test: ## the gate: layout, proofs, must-fail edits, and the checks of the machine code
 	@.ci/run
 
-bench: dist
+planted: tools ## the outside checks, seen to fail on faulty libraries, headers and programs
+	@tools/need.sh pkg:libsodium-dev libsodium-dev
+	@tools/planted.sh
+
+bench: dist ## measures, and writes docs/BENCHMARKS.md
 	@tools/need.sh cargo cargo
 	@tools/need.sh pkg:libsodium-dev libsodium-dev
 	@cd rust && cargo run --offline --release --quiet --package bench -- --docs ../docs $(if $(wildcard target/gate.times),--gate ../target/gate.times)
 
-# The comparison and the checks of secrets, stack, symbols, header and maskwalk, seen to fail on faulty ones.
-planted: tools
-	@tools/planted.sh
+install: ## copies what make built below PREFIX (/usr/local), with DESTDIR put before it
+	@tools/install.sh install "$(DIST)" "$(TOOL)"
 
-clean:
+uninstall: ## takes away what make install put there
+	@tools/install.sh uninstall "$(DIST)" "$(TOOL)"
+
+tools: ## sees that what the checks need beside the toolchain is there, or installs it
+	@tools/need.sh cargo cargo
+	@tools/need.sh c++ g++
+	@tools/need.sh valgrind valgrind
+	@tools/need.sh pkg-config pkg-config
+
+clean: ## removes all that was built
 	rm -rf target dist rust/target
+
+help: ## this list
+	@sed -nE 's/^([a-z]+):[^#]*## (.*)/\1\t\2/p' $(MAKEFILE_LIST) | awk -F '\t' '{ printf "make %-10s %s\n", $$1, $$2 }'

@@ -6,6 +6,9 @@ enum { WORDS = 16, BLOCK = 128, KEY = 32, NONCE = 16, TAG = 32, RUN = 16 };
 enum { MAX_HEADER = 4096, MAX_MESSAGE = 65536, MAX_STEPS = 4096, MAX_COUNT = 65536 };
 enum { OPP = 1, MRO = 2 };
 
+/* The round counts that seal and open take. */
+static const uint32_t ROUNDS[] = {4, 6};
+
 static inline uint64_t refuse(uint32_t number, uint32_t place)
 {
     return (uint64_t)number << 32 | place;
@@ -382,12 +385,20 @@ static void mro_stream(uint32_t rounds, const uint64_t start[WORDS], const uint6
 
 /* Sealing and opening. */
 
+static int allowed(uint32_t rounds)
+{
+    for (size_t i = 0; i < sizeof ROUNDS / sizeof ROUNDS[0]; i++)
+        if (rounds == ROUNDS[i])
+            return 1;
+    return 0;
+}
+
 static uint64_t check_settings(uint32_t mode, uint32_t rounds, size_t key_len, size_t nonce_len,
                                size_t header_len)
 {
     if (mode != OPP && mode != MRO)
         return refuse(1, 0);
-    if (rounds != 4 && rounds != 6)
+    if (!allowed(rounds))
         return refuse(2, 0);
     if (key_len != KEY)
         return refuse(3, 0);

@@ -12,15 +12,45 @@
  *     argument.
  *   - Nothing is kept between calls and nothing is allocated. Calls may
  *     run at the same time where no output overlaps a buffer of another call.
+ *   - An answer must be looked at: a refused call leaves the output as it was,
+ *     or zero. Compilers warn where one is dropped.
  *   - No branch and no address depends on the key, the nonce, the message, the
- *     parcel's content or its tag (checked on x86-64). Time depends on lengths,
- *     settings, step bytes and counts.
+ *     parcel's content or its tag, or on the start of a walk or jump (checked on
+ *     x86-64). Time depends on lengths, settings, step bytes and counts.
  */
 #ifndef CALMBAIZE_H
 #define CALMBAIZE_H
 
 #include <stddef.h>
 #include <stdint.h>
+
+/* The version, as text and as one number that grows. */
+#define CALMBAIZE_VERSION "0.1.0"
+#define CALMBAIZE_VERSION_MAJOR 0
+#define CALMBAIZE_VERSION_MINOR 1
+#define CALMBAIZE_VERSION_PATCH 0
+#define CALMBAIZE_VERSION_NUMBER \
+    (CALMBAIZE_VERSION_MAJOR * 1000000 + CALMBAIZE_VERSION_MINOR * 1000 + CALMBAIZE_VERSION_PATCH)
+
+/*
+ * The format of parcels. It goes up by one where calmbaize_seal() comes to write
+ * other bytes for the same arguments; calmbaize_open() opens this format only.
+ */
+#define CALMBAIZE_FORMAT 1
+
+/* Marks a call whose answer must not be dropped. */
+#if (defined(__cplusplus) && __cplusplus >= 201703L) ||                \
+    (defined(_MSVC_LANG) && _MSVC_LANG >= 201703L) ||                  \
+    (defined(__STDC_VERSION__) && __STDC_VERSION__ >= 202311L)
+#define CALMBAIZE_NODISCARD [[nodiscard]]
+#elif defined(__GNUC__)
+#define CALMBAIZE_NODISCARD __attribute__((warn_unused_result))
+#elif defined(_MSC_VER)
+#include <sal.h>
+#define CALMBAIZE_NODISCARD _Check_return_
+#else
+#define CALMBAIZE_NODISCARD
+#endif
 
 #ifdef __cplusplus
 extern "C" {
@@ -99,6 +129,7 @@ static inline size_t calmbaize_written(uint64_t answer)
  *
  * Refused, in this order, with 1, 2, 3, 4, 5, 6, 7; then no byte changes.
  */
+CALMBAIZE_NODISCARD
 uint64_t calmbaize_seal(uint32_t mode, uint32_t rounds,
                         const uint8_t *key, size_t key_len,
                         const uint8_t *nonce, size_t nonce_len,
@@ -117,6 +148,7 @@ uint64_t calmbaize_seal(uint32_t mode, uint32_t rounds,
  * the message would have filled are zero and the rest is unchanged; on every
  * other refusal no byte changes.
  */
+CALMBAIZE_NODISCARD
 uint64_t calmbaize_open(uint32_t mode, uint32_t rounds,
                         const uint8_t *key, size_t key_len,
                         const uint8_t *nonce, size_t nonce_len,
@@ -132,6 +164,7 @@ uint64_t calmbaize_open(uint32_t mode, uint32_t rounds,
  *
  * Refused, in this order, with 10, 13, 12, 7; then no byte changes.
  */
+CALMBAIZE_NODISCARD
 uint64_t calmbaize_walk(const uint8_t *start, size_t start_len,
                         const uint8_t *steps, size_t steps_len,
                         uint8_t *output, size_t output_len);
@@ -145,6 +178,7 @@ uint64_t calmbaize_walk(const uint8_t *start, size_t start_len,
  *
  * Refused, in this order, with 10, 11, 7; then no byte changes.
  */
+CALMBAIZE_NODISCARD
 uint64_t calmbaize_jump(const uint8_t *start, size_t start_len,
                         int32_t alpha, int32_t beta, int32_t gamma,
                         uint8_t *output, size_t output_len);

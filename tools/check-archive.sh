@@ -1,5 +1,6 @@
 #!/bin/sh
-# The archive has the four calls, calls nothing but C's memory functions, and keeps no state.
+# The archive has the calls that calmbaize.h declares and no other global name, calls nothing but C's
+# memory functions, and keeps no state.
 #
 # usage: check-archive.sh [FOLDER]
 #
@@ -16,26 +17,37 @@ if [ ! -f "$archive" ]; then
     exit 2
 fi
 
+# result WHAT NAMES: passes where no name is given.
 result() {
     if [ -z "$2" ]; then
         passed=$((passed + 1))
     else
         failed=$((failed + 1))
-        echo "  failed: $1:" $2
+        echo "  failed: $1: $(echo "$2" | tr '\n' ' ')"
     fi
 }
 
 # Lines of nm: an address for what is defined, then a type, then a name.
-symbols=$(nm "$archive" | awk 'NF >= 2 { print $(NF - 1), $NF }' | sort -u)
-defined=$(echo "$symbols" | awk '$1 ~ /^[TtRrVvWwDdBbC]$/ { print $2 }' | sort -u)
-undefined=$(echo "$symbols" | awk '$1 == "U" { print $2 }' | sort -u)
+symbols() {
+    nm "$@" "$archive" | awk 'NF >= 2 && $(NF - 1) ~ /^[A-Za-z]$/ { print $(NF - 1), $NF }' | sort -u
+}
 
-for call in calmbaize_seal calmbaize_open calmbaize_walk calmbaize_jump; do
-    result "missing call" "$(echo "$symbols" | grep -q "^T $call\$" || echo "$call")"
+names() {
+    cut -d ' ' -f 2
+}
+
+calls=$("$root/tools/calls.sh" "$root/include/calmbaize.h" | sed 's/(.*//')
+for call in $calls; do
+    result "missing call" "$(symbols | grep -qx "T $call" || echo "$call")"
 done
-result "calls outside" "$(echo "$undefined" | grep -vxF "$defined" |
-    grep -vxE 'mem(cpy|set|move|cmp)|_GLOBAL_OFFSET_TABLE_|' || true)"
-result "state kept between calls" "$(echo "$symbols" | awk '$1 ~ /^[DdBbC]$/ { print $2 }')"
+# The compiler keeps the crates' own functions local to the archive, so every other global name is one
+# too many: a program could call it, or have one of its own.
+result "global beside the calls" "$(symbols --extern-only --defined-only | names |
+    grep -vxF "$calls" || true)"
+result "calls outside" "$(symbols --undefined-only | names |
+    grep -vxE 'mem(cpy|set|move|cmp)|_GLOBAL_OFFSET_TABLE_' || true)"
+# Data that can be written would be state kept between calls.
+result "neither code nor constant" "$(symbols --defined-only | grep -v '^[TtRr] ' | names)"
 
 echo "$passed passed, $failed failed"
 [ "$failed" -eq 0 ]

@@ -1,6 +1,6 @@
 #!/bin/sh
-# Compiles calmbaize.h by itself as C and C++, every warning an error, and checks the constants and
-# the way an answer is taken apart.
+# Compiles calmbaize.h by itself as C and C++, every warning an error, and checks the constants, the
+# version, the way an answer is taken apart, and that a dropped answer is warned of.
 #
 # usage: check-header.sh [FOLDER]
 #
@@ -9,14 +9,25 @@ set -u
 
 root=$(cd "$(dirname "$0")/.." && pwd)
 folder=${1:-$root/include}
+version=$("$root/tools/version.sh")
 work=$(mktemp -d)
 trap 'rm -rf "$work"' EXIT
 passed=0
 failed=0
 
+if ! "$root/tools/calls.sh" "$folder/calmbaize.h" > "$work/calls"; then
+    echo "check-header: $folder/calmbaize.h is missing or declares no call" >&2
+    exit 2
+fi
+
 cat > "$work/answer.c" <<'END'
 #include "calmbaize.h"
 #include "calmbaize.h"
+#include <string.h>
+
+#if CALMBAIZE_VERSION_NUMBER != MAJOR * 1000000 + MINOR * 1000 + PATCH || CALMBAIZE_FORMAT < 1
+#error "the version is not that of rust/Cargo.toml, or there is no format"
+#endif
 
 int main(void)
 {
@@ -25,28 +36,76 @@ int main(void)
 
     return !(calmbaize_refusal(step) == 12U && calmbaize_place(step) == 4095U &&
              calmbaize_written(step) == 0U && calmbaize_refusal(parcel) == CALMBAIZE_OK &&
-             calmbaize_place(parcel) == 0U && calmbaize_written(parcel) == 65568U);
+             calmbaize_place(parcel) == 0U && calmbaize_written(parcel) == 65568U &&
+             strcmp(CALMBAIZE_VERSION, VERSION) == 0);
 }
 END
 cp "$work/answer.c" "$work/answer.cpp"
 
-try() {
-    if "$@" -Wall -Wextra -Wpedantic -Werror -I "$folder" -o "$work/answer" &&
-        "$work/answer"; then
+# A call whose answer is returned, or dropped where ANSWER is nothing.
+cat > "$work/drop.c" <<'END'
+#include "calmbaize.h"
+
+uint64_t take(void);
+uint64_t take(void)
+{
+    ANSWER CALL;
+    return 0;
+}
+END
+cp "$work/drop.c" "$work/drop.cpp"
+
+# count WHAT COMMAND...: WHAT is said where the command fails.
+count() {
+    what=$1
+    shift
+    if "$@"; then
         passed=$((passed + 1))
     else
-        echo "header: failed: $*"
         failed=$((failed + 1))
+        echo "  failed: header: $what"
     fi
 }
 
+# compile COMPILER WORDS...: every warning is an error.
+compile() {
+    "$@" -Wall -Wextra -Wpedantic -Wundef -Wconversion -Wno-long-long -Werror -I "$folder"
+}
+
+# Splits the version into the three numbers.
+runs() {
+    rest=${version#*.}
+    compile "$@" "-DVERSION=\"$version\"" "-DMAJOR=${version%%.*}" "-DMINOR=${rest%%.*}" \
+        "-DPATCH=${rest#*.}" -o "$work/answer" && "$work/answer"
+}
+
+# Where the answer is dropped the compiler must stop, and for that reason.
+warns() {
+    ! compile "$@" -DANSWER= -c -o "$work/drop.o" 2> "$work/log" && grep -q unused-result "$work/log"
+}
+
+takes() {
+    compile "$@" -DANSWER=return -c -o "$work/drop.o"
+}
+
+# answers COMPILER WORDS...: for each call.
+answers() {
+    while IFS= read -r call; do
+        count "$call dropped without a warning: $*" warns "$@" "-DCALL=$call"
+        count "$call not taken with its answer used: $*" takes "$@" "-DCALL=$call"
+    done < "$work/calls"
+}
+
 for standard in c99 c11 c17; do
-    try "${CC:-cc}" "-std=$standard" -Wconversion -Wstrict-prototypes "$work/answer.c"
+    count "$standard" runs "${CC:-cc}" "-std=$standard" -Wstrict-prototypes "$work/answer.c"
 done
 for standard in c++98 c++11 c++17; do
     # The types of 64 bits are long long on some machines, which C++98 does not have.
-    try "${CXX:-c++}" "-std=$standard" -Wno-long-long -Wconversion "$work/answer.cpp"
+    count "$standard" runs "${CXX:-c++}" "-std=$standard" "$work/answer.cpp"
 done
+answers "${CC:-cc}" -std=c99 "$work/drop.c"
+answers "${CXX:-c++}" -std=c++98 "$work/drop.cpp"
+answers "${CXX:-c++}" -std=c++17 "$work/drop.cpp"
 
 echo "$passed passed, $failed failed"
 [ "$failed" -eq 0 ]

@@ -22,7 +22,7 @@ if [ ! -f "$folder/libcalmbaize.a" ]; then
 fi
 ${CC:-cc} -std=c99 -O1 -g -Wall -Wextra -I "$root/include" "$root/tools/secrets.c" \
     "$folder/libcalmbaize.a" -o "$work/secrets"
-valgrind --quiet --error-limit=no --log-file="$work/log" "$work/secrets" ${2:-} || {
+valgrind --quiet --error-limit=no --log-file="$work/log" "$work/secrets" ${2:+"$2"} || {
     sed -n 1,40p "$work/log" >&2
     exit 1
 }

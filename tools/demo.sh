@@ -35,7 +35,9 @@ first=$(od -An -tu1 -N1 parcel | tr -d ' ')
 status=0
 "$tool" open $settings --input damaged --output refused 2> error || status=$?
 echo "one bit changed:      $(cat error) (status $status)"
-grep -q 'refused with 9' error && [ "$status" -eq 1 ] && [ ! -e refused ]
+grep -q 'refused with 9' error
+[ "$status" -eq 1 ]
+[ ! -e refused ]
 
 head -c 128 /dev/urandom > start
 "$tool" walk --steps aabgBa --input start --output one

@@ -10,12 +10,11 @@ passed=0
 failed=0
 log=$(mktemp)
 trap 'rm -f "$log"' EXIT
+# The lines of a part get their time here, and not once more in a script that it runs.
+export STAMPED=yes
 
-# One line of progress for each crate and edit, with the time since the gate began.
 stamped() {
-    while IFS= read -r line; do
-        printf '[%4d s] %s\n' $(($(date +%s) - began)) "$line"
-    done
+    STAMPED='' tools/stamped.sh "$began"
 }
 
 # part NAME COMMAND...: runs it and adds the counts that it prints, in the prover's form and cargo's.
@@ -36,12 +35,6 @@ part() {
     fi
 }
 
-prove() {
-    command -v rt >/dev/null || { echo "gate: rt is missing: the Rattle toolchain is needed"; return 2; }
-    rt ci | sed -uE '/^(library|logic |crate |note:|fn |enum |struct )/d'
-    return "${PIPESTATUS[0]}"
-}
-
 # The seconds of each crate's proofs and of its edits, for the page of benchmarks. Two run at a time.
 write_times() {
     sed -nE 's/^rt: ([a-z_]+) proved \(([0-9]+) s\).*/\1 \2/p; s/^rt: must-fail ([a-z_]+)\/.*; ([0-9]+) s\)$/\1-edits \2/p' "$log" |
@@ -56,15 +49,29 @@ cargo_in_rust() {
     (cd rust && cargo "$1" --offline --release --quiet "${@:2}")
 }
 
-make --no-print-directory tools || exit 2
-part "proofs, must-fail edits and programs" prove
+# Calls and their answers, in files: the archive, and the second implementation.
+cases() {
+    (
+        cd rust || exit 2
+        for library in archive reference; do
+            cargo run --offline --release --quiet --package compare -- --library "$library" vectors compare/cases/*.txt || exit
+        done
+    )
+}
+
+tools/need.sh rt '' && make --no-print-directory tools || exit 2
+part "layout" tools/check-layout.sh
+part "proofs, must-fail edits and programs" tools/prove.sh ci
 [ -d target ] && write_times
 part "archive" archive
 if [ -f dist/libcalmbaize.a ]; then
     part "header" tools/check-header.sh dist
     part "archive's symbols" tools/check-archive.sh
+    part "install" tools/check-install.sh
     part "Rust tests" cargo_in_rust test --workspace
     part "comparison with the second implementation" cargo_in_rust run --package compare -- all
+    part "comparison of the scalar C" cargo_in_rust run --package compare -- --library baseline --calls 3000 all permute
+    part "cases" cases
     part "maskwalk" cargo_in_rust run --package compare -- --maskwalk ../target/bin/maskwalk maskwalk
     part "stack" tools/check-stack.sh
     part "secrets" tools/check-secrets.sh

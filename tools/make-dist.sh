@@ -1,5 +1,6 @@
 #!/bin/sh
-# Puts what a user links into one folder: the archive, the header and a pkg-config file.
+# Puts what a user links into one folder: the archive, the header and a pkg-config file. A file that
+# is already as it should be is not touched, so that nothing built on it is built again.
 #
 # usage: make-dist.sh ARCHIVE [FOLDER]
 #
@@ -9,17 +10,29 @@ set -eu
 root=$(cd "$(dirname "$0")/.." && pwd)
 archive=$1
 folder=${2:-$root/dist}
-version=$(sed -n 's/^version = "\(.*\)"$/\1/p' "$root/rust/Cargo.toml")
+version=$("$root/tools/version.sh")
+work=$(mktemp -d)
+trap 'rm -rf "$work"' EXIT
+
+# put FILE NAME: the folder's NAME becomes as FILE is.
+put() {
+    cmp -s "$1" "$folder/$2" && return
+    cp "$1" "$folder/.new"
+    mv "$folder/.new" "$folder/$2"
+}
 
 mkdir -p "$folder"
-cp "$archive" "$folder/libcalmbaize.a"
-cp "$root/include/calmbaize.h" "$folder/calmbaize.h"
-cat > "$folder/calmbaize.pc" <<END
+cat > "$work/calmbaize.pc" <<END
 prefix=\${pcfiledir}
+libdir=\${prefix}
+includedir=\${prefix}
 
 Name: calmbaize
 Description: Authenticated encryption with OPP and MRO over a masked BLAKE2b permutation
 Version: $version
-Libs: -L\${prefix} -lcalmbaize
-Cflags: -I\${prefix}
+Libs: -L\${libdir} -lcalmbaize
+Cflags: -I\${includedir}
 END
+put "$archive" libcalmbaize.a
+put "$root/include/calmbaize.h" calmbaize.h
+put "$work/calmbaize.pc" calmbaize.pc

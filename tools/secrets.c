@@ -1,6 +1,7 @@
 /*
- * Seals and opens with the key, the nonce, the message, the parcel and its tag marked undefined.
- * Under valgrind's memcheck every branch and every address that depends on one of them is an error.
+ * Seals and opens with the key, the nonce, the message, the parcel and its tag marked undefined, and
+ * walks and jumps with the start marked so. Under valgrind's memcheck every branch and every address
+ * that depends on one of them is an error.
  *
  * usage: secrets [VERDICT]
  *
@@ -14,23 +15,26 @@
 #include <valgrind/memcheck.h>
 
 #include "calmbaize.h"
+#include "settings.h"
 
-enum { MAX = 4096, TAG = CALMBAIZE_TAG_BYTES };
+enum { MAX = 4096, TAG = CALMBAIZE_TAG_BYTES, KINDS = 6, RUN = 10, STEPS = KINDS * RUN };
 
 static uint8_t key[CALMBAIZE_KEY_BYTES], nonce[CALMBAIZE_NONCE_BYTES];
 static uint8_t header[200], message[MAX], parcel[MAX + TAG], output[MAX + TAG];
+static uint8_t start[CALMBAIZE_BLOCK_BYTES], steps[STEPS];
+static char tried[80];
 static unsigned long passed, failed;
 
-static void count(const char *call, uint32_t mode, uint32_t rounds, size_t len, uint64_t answer,
-                  uint64_t expected, unsigned errors, unsigned allowed)
+/* Counts the call that is tried. */
+static void count(uint64_t answer, uint64_t expected, unsigned errors, unsigned allowed)
 {
     if (answer == expected && errors <= allowed) {
         passed++;
         return;
     }
     failed++;
-    printf("  failed: %s, mode %u, %u rounds, %zu bytes: answer %#llx, %u uses of a secret\n", call,
-           mode, rounds, len, (unsigned long long)answer, errors);
+    printf("  failed: %s: answer %#llx, %u uses of a secret\n", tried, (unsigned long long)answer,
+           errors);
 }
 
 static void fill(uint8_t *bytes, size_t len, unsigned seed)
@@ -39,10 +43,9 @@ static void fill(uint8_t *bytes, size_t len, unsigned seed)
         bytes[i] = (uint8_t)(seed = seed * 1103515245U + 12345U, seed >> 16);
 }
 
-static void mark_key_and_nonce(void)
+static void hide(void *bytes, size_t len)
 {
-    VALGRIND_MAKE_MEM_UNDEFINED(key, sizeof key);
-    VALGRIND_MAKE_MEM_UNDEFINED(nonce, sizeof nonce);
+    VALGRIND_MAKE_MEM_UNDEFINED(bytes, len);
 }
 
 static void define(void *bytes, size_t len)
@@ -50,42 +53,124 @@ static void define(void *bytes, size_t len)
     VALGRIND_MAKE_MEM_DEFINED(bytes, len);
 }
 
+static void hide_key_and_nonce(void)
+{
+    hide(key, sizeof key);
+    hide(nonce, sizeof nonce);
+}
+
+static void define_key_and_nonce(void)
+{
+    define(key, sizeof key);
+    define(nonce, sizeof nonce);
+}
+
 static void seal(uint32_t mode, uint32_t rounds, size_t header_len, size_t len)
 {
-    mark_key_and_nonce();
-    VALGRIND_MAKE_MEM_UNDEFINED(message, len);
+    hide_key_and_nonce();
+    hide(message, len);
     unsigned before = VALGRIND_COUNT_ERRORS;
     uint64_t answer = calmbaize_seal(mode, rounds, key, sizeof key, nonce, sizeof nonce, header,
                                      header_len, message, len, parcel, sizeof parcel);
     unsigned errors = VALGRIND_COUNT_ERRORS - before;
     define(&answer, sizeof answer);
-    define(key, sizeof key);
-    define(nonce, sizeof nonce);
+    define_key_and_nonce();
     define(message, len);
     define(parcel, sizeof parcel);
-    count("seal", mode, rounds, len, answer, len + TAG, errors, 0);
+    snprintf(tried, sizeof tried, "seal, mode %u, %u rounds, %zu bytes", mode, rounds, len);
+    count(answer, len + TAG, errors, 0);
 }
 
-static void open(const char *name, uint32_t mode, uint32_t rounds, size_t header_len, size_t len,
-                 uint64_t expected, unsigned allowed)
+/* With the bits of changed in the parcel's byte at the place. */
+static void open(uint32_t mode, uint32_t rounds, size_t header_len, size_t len, size_t place,
+                 uint8_t changed, unsigned allowed)
 {
-    mark_key_and_nonce();
-    VALGRIND_MAKE_MEM_UNDEFINED(parcel, len + TAG);
+    parcel[place] ^= changed;
+    hide_key_and_nonce();
+    hide(parcel, len + TAG);
     unsigned before = VALGRIND_COUNT_ERRORS;
     uint64_t answer = calmbaize_open(mode, rounds, key, sizeof key, nonce, sizeof nonce, header,
                                      header_len, parcel, len + TAG, output, sizeof output);
     unsigned errors = VALGRIND_COUNT_ERRORS - before;
     define(&answer, sizeof answer);
-    define(key, sizeof key);
-    define(nonce, sizeof nonce);
+    define_key_and_nonce();
     define(parcel, sizeof parcel);
     define(output, sizeof output);
-    count(name, mode, rounds, len, answer, expected, errors, allowed);
+    parcel[place] ^= changed;
+    snprintf(tried, sizeof tried, "open, mode %u, %u rounds, %zu bytes, %#x into byte %zu", mode,
+             rounds, len, changed, place);
+    count(answer, changed ? (uint64_t)CALMBAIZE_REFUSED_TAG << 32 : len, errors, allowed);
+}
+
+static void walk(size_t from, size_t len)
+{
+    hide(start, sizeof start);
+    unsigned before = VALGRIND_COUNT_ERRORS;
+    uint64_t answer =
+        calmbaize_walk(start, sizeof start, steps + from, len, output, sizeof output);
+    unsigned errors = VALGRIND_COUNT_ERRORS - before;
+    define(&answer, sizeof answer);
+    define(start, sizeof start);
+    define(output, sizeof output);
+    snprintf(tried, sizeof tried, "walk, %zu steps, the first %u", len, steps[from]);
+    count(answer, sizeof start, errors, 0);
+}
+
+static void jump(int32_t alpha, int32_t beta, int32_t gamma)
+{
+    hide(start, sizeof start);
+    unsigned before = VALGRIND_COUNT_ERRORS;
+    uint64_t answer =
+        calmbaize_jump(start, sizeof start, alpha, beta, gamma, output, sizeof output);
+    unsigned errors = VALGRIND_COUNT_ERRORS - before;
+    define(&answer, sizeof answer);
+    define(start, sizeof start);
+    define(output, sizeof output);
+    snprintf(tried, sizeof tried, "jump by %d, %d, %d", alpha, beta, gamma);
+    count(answer, sizeof start, errors, 0);
+}
+
+/* Every length, whole, and with the first and the last byte of the tag changed. */
+static void all_lengths(uint32_t mode, uint32_t rounds, unsigned allowed)
+{
+    static const size_t lengths[] = {0, 1, 13, 127, 128, 129, 300, 1024, MAX};
+
+    for (size_t i = 0; i < COUNT(lengths); i++) {
+        size_t len = lengths[i], header_len = i % 2 ? sizeof header : 0;
+        seal(mode, rounds, header_len, len);
+        open(mode, rounds, header_len, len, len, 0, allowed);
+        open(mode, rounds, header_len, len, len, 1, allowed);
+        open(mode, rounds, header_len, len, len + TAG - 1, 0x80, allowed);
+    }
+}
+
+/* Each kind of step alone and in a run, all kinds in runs and in turn, and no step. */
+static void all_steps(void)
+{
+    for (size_t i = 0; i < STEPS; i++)
+        steps[i] = (uint8_t)(1 + i / RUN);
+    for (size_t i = 0; i < STEPS; i += RUN) {
+        walk(i, 1);
+        walk(i, RUN);
+    }
+    walk(0, STEPS);
+    for (size_t i = 0; i < STEPS; i++)
+        steps[i] = (uint8_t)(1 + i % KINDS);
+    walk(0, STEPS);
+    walk(0, 0);
+}
+
+/* Each count above, at and below zero, with each of the others so. */
+static void all_counts(void)
+{
+    for (int32_t alpha = -7; alpha <= 7; alpha += 7)
+        for (int32_t beta = -7; beta <= 7; beta += 7)
+            for (int32_t gamma = -7; gamma <= 7; gamma += 7)
+                jump(alpha, beta, gamma);
 }
 
 int main(int argc, char **argv)
 {
-    static const size_t lengths[] = {0, 1, 13, 127, 128, 129, 300, 1024, MAX};
     unsigned allowed = argc > 1 ? (unsigned)atoi(argv[1]) : 0;
 
     if (!RUNNING_ON_VALGRIND) {
@@ -96,19 +181,12 @@ int main(int argc, char **argv)
     fill(nonce, sizeof nonce, 2);
     fill(header, sizeof header, 3);
     fill(message, sizeof message, 4);
-    for (uint32_t mode = 1; mode <= 2; mode++)
-        for (uint32_t rounds = 4; rounds <= 6; rounds += 2)
-            for (size_t i = 0; i < sizeof lengths / sizeof lengths[0]; i++) {
-                size_t len = lengths[i], header_len = i % 2 ? sizeof header : 0;
-                uint64_t refused = (uint64_t)CALMBAIZE_REFUSED_TAG << 32;
-                seal(mode, rounds, header_len, len);
-                open("open", mode, rounds, header_len, len, len, allowed);
-                parcel[len] ^= 1;
-                open("open, first tag byte", mode, rounds, header_len, len, refused, allowed);
-                parcel[len] ^= 1;
-                parcel[len + TAG - 1] ^= 0x80;
-                open("open, last tag byte", mode, rounds, header_len, len, refused, allowed);
-            }
+    fill(start, sizeof start, 5);
+    for (size_t m = 0; m < COUNT(modes); m++)
+        for (size_t r = 0; r < COUNT(round_counts); r++)
+            all_lengths(modes[m], round_counts[r], allowed);
+    all_steps();
+    all_counts();
     printf("%lu passed, %lu failed\n", passed, failed);
     return failed > 0;
 }

@@ -11,6 +11,7 @@
 #include <ucontext.h>
 
 #include "calmbaize.h"
+#include "settings.h"
 
 enum { STACK = 1 << 20, PAINT = 0xa5, MAX = CALMBAIZE_MESSAGE_BYTES_MAX, TAG = CALMBAIZE_TAG_BYTES };
 
@@ -19,7 +20,13 @@ static uint8_t header[CALMBAIZE_HEADER_BYTES_MAX], message[MAX], parcel[MAX + TA
 static uint8_t output[MAX + TAG], start[CALMBAIZE_BLOCK_BYTES], steps[600];
 static uint32_t mode, rounds;
 static size_t header_len, len;
+static unsigned long unexpected;
 static ucontext_t here, there;
+
+static void expect(uint64_t answer, uint64_t expected)
+{
+    unexpected += answer != expected;
+}
 
 static void nothing(void)
 {
@@ -27,32 +34,39 @@ static void nothing(void)
 
 static void seal(void)
 {
-    calmbaize_seal(mode, rounds, key, sizeof key, nonce, sizeof nonce, header, header_len, message,
-                   len, parcel, sizeof parcel);
+    expect(calmbaize_seal(mode, rounds, key, sizeof key, nonce, sizeof nonce, header, header_len,
+                          message, len, parcel, sizeof parcel),
+           len + TAG);
+}
+
+static uint64_t open_parcel(void)
+{
+    return calmbaize_open(mode, rounds, key, sizeof key, nonce, sizeof nonce, header, header_len,
+                          parcel, len + TAG, output, sizeof output);
 }
 
 static void open(void)
 {
-    calmbaize_open(mode, rounds, key, sizeof key, nonce, sizeof nonce, header, header_len, parcel,
-                   len + TAG, output, sizeof output);
+    expect(open_parcel(), len);
 }
 
 static void open_refused(void)
 {
     parcel[len] ^= 1;
-    open();
+    expect(open_parcel(), (uint64_t)CALMBAIZE_REFUSED_TAG << 32);
     parcel[len] ^= 1;
 }
 
 static void walk(void)
 {
-    calmbaize_walk(start, sizeof start, steps, sizeof steps, output, sizeof output);
+    expect(calmbaize_walk(start, sizeof start, steps, sizeof steps, output, sizeof output),
+           sizeof start);
 }
 
 static void jump(void)
 {
-    calmbaize_jump(start, sizeof start, 5, -5, -5, output, sizeof output);
-    calmbaize_jump(start, sizeof start, -5, 5, 5, output, sizeof output);
+    expect(calmbaize_jump(start, sizeof start, 5, -5, -5, output, sizeof output), sizeof start);
+    expect(calmbaize_jump(start, sizeof start, -5, 5, 5, output, sizeof output), sizeof start);
 }
 
 static size_t depth(void (*call)(void))
@@ -75,22 +89,47 @@ static size_t depth(void (*call)(void))
     return STACK - untouched;
 }
 
-/* The deepest over all modes, round counts and kinds of lengths. */
-static size_t deepest_sealing(void (*call)(void))
+/* The deepest over all kinds of lengths. */
+static size_t deepest_of_lengths(void (*call)(void))
 {
     static const size_t lengths[] = {0, 1, 127, 128, 129, 4096, MAX};
     size_t deepest = 0;
 
-    for (mode = 1; mode <= 2; mode++)
-        for (rounds = 4; rounds <= 6; rounds += 2)
-            for (size_t i = 0; i < sizeof lengths / sizeof lengths[0]; i++)
-                for (header_len = 0; header_len <= sizeof header; header_len += 1365) {
-                    len = lengths[i];
-                    seal();
-                    size_t found = depth(call);
-                    deepest = found > deepest ? found : deepest;
-                }
+    for (size_t i = 0; i < COUNT(lengths); i++)
+        for (header_len = 0; header_len <= sizeof header; header_len += 1365) {
+            len = lengths[i];
+            seal();
+            size_t found = depth(call);
+            deepest = found > deepest ? found : deepest;
+        }
     return deepest;
+}
+
+/* The deepest over all modes and round counts. */
+static size_t deepest_sealing(void (*call)(void))
+{
+    size_t deepest = 0;
+
+    for (size_t m = 0; m < COUNT(modes); m++)
+        for (size_t r = 0; r < COUNT(round_counts); r++) {
+            mode = modes[m];
+            rounds = round_counts[r];
+            size_t found = deepest_of_lengths(call);
+            deepest = found > deepest ? found : deepest;
+        }
+    return deepest;
+}
+
+/* How many of the settings 0 to 99 seal accepts: all of them must be among those tried. */
+static size_t accepted_settings(void)
+{
+    size_t accepted = 0;
+
+    for (uint32_t m = 0; m < 100; m++)
+        for (uint32_t r = 0; r < 100; r++)
+            accepted += calmbaize_seal(m, r, key, sizeof key, nonce, sizeof nonce, header, 0, message,
+                                       0, parcel, sizeof parcel) == TAG;
+    return accepted;
 }
 
 static int check(const char *call, size_t measured, size_t floor, size_t stated)
@@ -99,6 +138,18 @@ static int check(const char *call, size_t measured, size_t floor, size_t stated)
     int passed = bytes <= stated;
 
     printf("  %s: %zu bytes, stated %zu%s\n", call, bytes, stated, passed ? "" : ": too deep");
+    return passed;
+}
+
+/* Every setting that is accepted is tried, and no call answers otherwise than it should. */
+static int check_answers(void)
+{
+    size_t accepted = accepted_settings(), tried = COUNT(modes) * COUNT(round_counts);
+    int passed = accepted == tried && unexpected == 0;
+
+    if (!passed)
+        printf("  answers: %zu settings tried of %zu accepted, %lu answers not as they should be\n",
+               tried, accepted, unexpected);
     return passed;
 }
 
@@ -116,6 +167,7 @@ int main(void)
     passed += check("open", opened > refused ? opened : refused, floor, CALMBAIZE_OPEN_STACK_BYTES);
     passed += check("walk", depth(walk), floor, CALMBAIZE_WALK_STACK_BYTES);
     passed += check("jump", depth(jump), floor, CALMBAIZE_JUMP_STACK_BYTES);
-    printf("%d passed, %d failed\n", passed, 4 - passed);
-    return passed < 4;
+    passed += check_answers();
+    printf("%d passed, %d failed\n", passed, 5 - passed);
+    return passed < 5;
 }

@@ -3,7 +3,7 @@
 #
 # usage: stand-in.sh FOLDER [SED-SCRIPT]
 #
-# FOLDER receives libcalmbaize.a. A sed script plants a fault in the source first.
+# FOLDER receives what make puts into dist/. A sed script plants a fault in the source first.
 set -eu
 
 root=$(cd "$(dirname "$0")/.." && pwd)
@@ -19,7 +19,9 @@ fi
 ${CC:-cc} -std=c99 -O3 -fPIC -I "$root/c" \
     -Dbaseline_seal=calmbaize_seal -Dbaseline_open=calmbaize_open \
     -Dbaseline_walk=calmbaize_walk -Dbaseline_jump=calmbaize_jump \
-    -Dbaseline_permute=calmbaize_permute \
     -c "$folder/stand-in.c" -o "$folder/stand-in.o"
-rm -f "$folder/libcalmbaize.a"
-ar crs "$folder/libcalmbaize.a" "$folder/stand-in.o"
+# The library exports no permutation.
+objcopy --localize-symbol=baseline_permute "$folder/stand-in.o"
+rm -f "$folder/stand-in.a"
+ar crs "$folder/stand-in.a" "$folder/stand-in.o"
+"$root/tools/make-dist.sh" "$folder/stand-in.a" "$folder"

@@ -1,17 +1,93 @@
--- A bound on what a call answers, by the checks that it goes through. Assumes nothing.
-use mathlib.Core.Path.{_≡_, refl, sym, subst}
-use mathlib.Core.Bool.{Bool, true, false}
+-- Laws of checks, and a bound on what a call answers. Assumes nothing.
+use mathlib.Core.Path.{_≡_, refl, sym, ap, _∙_, subst}
+use mathlib.Core.Bool.{Bool, true, false, true≢false}
 use mathlib.Core.List.{List}
-use Prim.Native.Nat.{ℕ, _/_, _%_, _^_, _<_}
+use Prim.Native.Nat.{ℕ, _/_, _%_, _^_, _≤_, _<_}
 use lib.Arith.{digits-div, digits-mod}
-use Rattle.answers.specs.Answers.{numberOf, valueOf, codeOf, refuse}
+use borrow.Author.Tests.{ltb-false}
+use lib.Dec.{ltb}
+use Rattle.answers.specs.Answers.{numberOf, valueOf, codeOf, lineAt, line, room, checked}
+use Rattle.answers.specs.declared.Ground.{Ground}
+use Rattle.answers.specs.declared.Ground.the-variants.{OutputLength}
+use Rattle.answers.specs.declared.Check.{Check}
+use Rattle.answers.specs.declared.Check.the-variants.{Clear, Fails}
 use Rattle.answers.specs.declared.Answer.{Answer}
+use Rattle.answers.specs.declared.Answer.the-variants.{Refused}
 
-pub refuse-lt : (n : ℕ) (t : Bool) (a : Answer) (out : List ℕ) (next : Answer × List ℕ) → valueOf a < n → (t ≡ false → valueOf (next .0) < n)
-    → valueOf (refuse t a out next .0) < n
-unfolding refuse
-refuse-lt n true a out next h g = h
-refuse-lt n false a out next h g = g refl
+-- ---- checks that are clear
+
+-- whether checks are clear
+abbrev pub isClear : Check → Bool
+isClear Clear = true
+isClear (Fails ground place) = false
+
+pub lineAt-clear : (t : Bool) (g : Ground) (at : ℕ) (next : Check) → lineAt t g at next ≡ Clear → (t ≡ false) × (next ≡ Clear)
+unfolding lineAt
+lineAt-clear true g at next e = absurd (true≢false (sym (ap isClear e)))
+lineAt-clear false g at next e = (refl, e)
+
+pub line-clear : (t : Bool) (g : Ground) (next : Check) → line t g next ≡ Clear → (t ≡ false) × (next ≡ Clear)
+unfolding line
+line-clear t g next e = lineAt-clear t g 0 next e
+
+pub room-clear : (needed lent : ℕ) → room needed lent ≡ Clear → needed ≤ lent
+unfolding room
+room-clear needed lent e = ltb-false lent needed (line-clear (ltb lent needed) OutputLength Clear e .0)
+
+-- ---- checks one after the other
+
+-- the next checks decide where the first ones are clear
+unfoldable pub after : Check → Check → Check
+after Clear next = next
+after (Fails ground place) next = Fails ground place
+
+pub line-after : (t : Bool) (g : Ground) (c next : Check) → line t g (after c next) ≡ after (line t g c) next
+unfolding line lineAt after
+line-after true g c next = refl
+line-after false g c next = refl
+
+module _ {all : Check} (c next : Check) (e : all ≡ after c next) where
+  pub stopped : {g : Ground} {at : ℕ} → c ≡ Fails g at → all ≡ Fails g at
+  unfolding after
+  stopped q = e ∙ ap (λ (x : Check). after x next) q
+
+  pub passed-on : c ≡ Clear → all ≡ next
+  unfolding after
+  passed-on q = e ∙ ap (λ (x : Check). after x next) q
+
+pub after-clear : (c next : Check) → after c next ≡ Clear → (c ≡ Clear) × (next ≡ Clear)
+unfolding after
+after-clear Clear next e = (refl, e)
+after-clear (Fails g at) next e = absurd (true≢false (sym (ap isClear e)))
+
+-- ---- a call after its checks
+
+pub refused : {c found : Check} (g : Ground) (at : ℕ) (out : List ℕ) (r : Answer × List ℕ) → found ≡ c → found ≡ Fails g at
+    → (Refused g at, out) ≡ checked c out r
+unfolding checked
+refused g at out r e q = sym (ap (λ (x : Check). checked x out r) (sym e ∙ q))
+
+pub allowed : {c found : Check} (out : List ℕ) (r : Answer × List ℕ) → found ≡ c → found ≡ Clear → r ≡ checked c out r
+unfolding checked
+allowed out r e q = sym (ap (λ (x : Check). checked x out r) (sym e ∙ q))
+
+-- ---- a bound on the answer
+
+-- the place that checks find
+abbrev pub placeOf : Check → ℕ
+placeOf Clear = 0
+placeOf (Fails ground place) = place
+
+pub lineAt-lt : (n : ℕ) (t : Bool) (g : Ground) (at : ℕ) (next : Check) → at < n → (t ≡ false → placeOf next < n) → placeOf (lineAt t g at next) < n
+unfolding lineAt
+lineAt-lt n true g at next h k = h
+lineAt-lt n false g at next h k = k refl
+
+pub checked-lt : (n : ℕ) (c : Check) (out : List ℕ) (r : Answer × List ℕ) → placeOf c < n → (c ≡ Clear → valueOf (r .0) < n)
+    → valueOf (checked c out r .0) < n
+unfolding checked
+checked-lt n Clear out r h k = k refl
+checked-lt n (Fails g at) out r h k = h
 
 -- an answer's number and value, taken apart again
 pub taken-apart : (a : Answer) → valueOf a < 2 ^ 32 → (codeOf a / 2 ^ 32 ≡ numberOf a) × (codeOf a % 2 ^ 32 ≡ valueOf a)

@@ -1,45 +1,44 @@
--- What a public call answers (document 01, "Entry points and where each call is checked"). Assumes nothing.
+-- What a public call answers, and what its checks find (document 01, "Entry points and where each call is checked"). Assumes nothing.
 use mathlib.Core.Bool.{Bool, true, false}
 use mathlib.Core.List.{List}
 use Prim.Native.Nat.{ℕ, _+_, _*_, _^_}
+use lib.Dec.{ltb}
+use Rattle.answers.specs.declared.Ground.{Ground}
+use Rattle.answers.specs.declared.Ground.the-variants.{Mode, Rounds, KeyLength, NonceLength, HeaderLength, InputLength, OutputLength, TagMissing, TagDiffers, StartLength, NetCount, StepByte, ListLength}
+use Rattle.answers.specs.declared.Check.{Check}
+use Rattle.answers.specs.declared.Check.the-variants.{Clear, Fails}
 use Rattle.answers.specs.declared.Answer.{Answer}
-use Rattle.answers.specs.declared.Answer.the-variants.{Done, Mode, Rounds, KeyLength, NonceLength, HeaderLength, InputLength, OutputLength, TagMissing, TagDiffers, StartLength, NetCount, StepByte, ListLength}
+use Rattle.answers.specs.declared.Answer.the-variants.{Done, Refused}
 
--- the number of each ground in the table; 0 is success
+-- ---- answers
+
+-- the number of each ground in the table
+abbrev pub groundNumber : Ground → ℕ
+groundNumber Mode = 1
+groundNumber Rounds = 2
+groundNumber KeyLength = 3
+groundNumber NonceLength = 4
+groundNumber HeaderLength = 5
+groundNumber InputLength = 6
+groundNumber OutputLength = 7
+groundNumber TagMissing = 8
+groundNumber TagDiffers = 9
+groundNumber StartLength = 10
+groundNumber NetCount = 11
+groundNumber StepByte = 12
+groundNumber ListLength = 13
+
+-- a refusal returns its number; 0 is success
 abbrev pub numberOf : Answer → ℕ
-numberOf (Done n) = 0
-numberOf Mode = 1
-numberOf Rounds = 2
-numberOf KeyLength = 3
-numberOf NonceLength = 4
-numberOf HeaderLength = 5
-numberOf InputLength = 6
-numberOf OutputLength = 7
-numberOf TagMissing = 8
-numberOf TagDiffers = 9
-numberOf StartLength = 10
-numberOf NetCount = 11
-numberOf (StepByte at) = 12
-numberOf ListLength = 13
+numberOf (Done value) = 0
+numberOf (Refused ground place) = groundNumber ground
 
--- success returns the bytes written; a refusal a place, which is 0 except for 12
+-- success returns a value, as the bytes written; a refusal a place
 abbrev pub valueOf : Answer → ℕ
-valueOf (Done n) = n
-valueOf Mode = 0
-valueOf Rounds = 0
-valueOf KeyLength = 0
-valueOf NonceLength = 0
-valueOf HeaderLength = 0
-valueOf InputLength = 0
-valueOf OutputLength = 0
-valueOf TagMissing = 0
-valueOf TagDiffers = 0
-valueOf StartLength = 0
-valueOf NetCount = 0
-valueOf (StepByte at) = at
-valueOf ListLength = 0
+valueOf (Done value) = value
+valueOf (Refused ground place) = place
 
--- an answer as one number, for C: the refusal's number times 2^32, plus the place; on success the bytes written
+-- an answer as one number, for C: the refusal's number times 2^32, plus the place; on success the value
 unfoldable pub codeOf : Answer → ℕ
 codeOf a = numberOf a * 2 ^ 32 + valueOf a
 
@@ -47,7 +46,22 @@ codeOf a = numberOf a * 2 ^ 32 + valueOf a
 unfoldable pub coded : Answer × List ℕ → ℕ × List ℕ
 coded r = (codeOf (r .0), r .1)
 
--- a check of the table: where the ground holds, the call answers it and changes no byte of the output; else the next check decides
-unfoldable pub refuse : Bool → Answer → List ℕ → Answer × List ℕ → Answer × List ℕ
-refuse true ground out next = (ground, out)
-refuse false ground out next = next
+-- ---- checks
+
+-- a line of the table: where its ground holds, that is what the checks find, at that place; else the next line decides
+unfoldable pub lineAt : Bool → Ground → ℕ → Check → Check
+lineAt true ground place next = Fails ground place
+lineAt false ground place next = next
+
+-- a place is 0 except for 12
+unfoldable pub line : Bool → Ground → Check → Check
+line test ground next = lineAt test ground 0 next
+
+-- the last line of many calls: the output shorter than success writes
+unfoldable pub room : ℕ → ℕ → Check
+room needed lent = line (ltb lent needed) OutputLength Clear
+
+-- a call: what its checks find it answers, and changes no byte of the output; where they are clear it answers and writes as given
+unfoldable pub checked : Check → List ℕ → Answer × List ℕ → Answer × List ℕ
+checked (Fails ground place) out result = (Refused ground place, out)
+checked Clear out result = result

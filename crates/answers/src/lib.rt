@@ -1,11 +1,10 @@
-// What a public call answers: the bytes written, or the ground of refusal.
+// What a public call answers: a value, or the ground of refusal and its place; and what checks find.
 ghost use mathlib.Core.Path.{_≡_};
-ghost use Rattle.answers.specs.Answers.{numberOf, valueOf, codeOf};
+ghost use Rattle.answers.specs.Answers.{groundNumber, numberOf, valueOf, codeOf, room as roomOf};
 ghost use Prim.Native.Nat.{_<_, _^_};
 
-pub enum Answer {
-    // Success, and how many bytes were written.
-    Done(usize),
+// Why a call is refused.
+pub enum Ground {
     // The mode is not 1 or 2.
     Mode,
     // The round count is not an allowed one.
@@ -28,53 +27,62 @@ pub enum Answer {
     StartLength,
     // A net count is out of range.
     NetCount,
-    // A step byte outside 1 to 6, and its place.
-    StepByte(usize),
+    // A step byte outside 1 to 6.
+    StepByte,
     // The list has over 4,096 steps.
     ListLength,
 }
 
+// What a call's checks find: nothing, or the first ground that holds and its place.
+pub enum Check {
+    Clear,
+    Fails(Ground, u64),
+}
+
+// Success and its value, or the ground of refusal and its place.
+pub enum Answer {
+    Done(u64),
+    Refused(Ground, u64),
+}
+
+// The number of a ground.
+fn ground_number(g: Ground) -> u32
+    ensures { λ r. ⌜ r ≡ groundNumber g ⌝ }
+{
+    match g {
+        Ground::Mode => 1,
+        Ground::Rounds => 2,
+        Ground::KeyLength => 3,
+        Ground::NonceLength => 4,
+        Ground::HeaderLength => 5,
+        Ground::InputLength => 6,
+        Ground::OutputLength => 7,
+        Ground::TagMissing => 8,
+        Ground::TagDiffers => 9,
+        Ground::StartLength => 10,
+        Ground::NetCount => 11,
+        Ground::StepByte => 12,
+        Ground::ListLength => 13,
+    }
+}
+
 // The number of the ground, or 0 on success.
-pub fn number(a: Answer) -> u32
+fn number(a: Answer) -> u32
     ensures { λ r. ⌜ r ≡ numberOf a ⌝ }
 {
     match a {
         Answer::Done(_) => 0,
-        Answer::Mode => 1,
-        Answer::Rounds => 2,
-        Answer::KeyLength => 3,
-        Answer::NonceLength => 4,
-        Answer::HeaderLength => 5,
-        Answer::InputLength => 6,
-        Answer::OutputLength => 7,
-        Answer::TagMissing => 8,
-        Answer::TagDiffers => 9,
-        Answer::StartLength => 10,
-        Answer::NetCount => 11,
-        Answer::StepByte(_) => 12,
-        Answer::ListLength => 13,
+        Answer::Refused(ground, _) => ground_number(ground),
     }
 }
 
-// The bytes written on success, else the place.
-pub fn value(a: Answer) -> usize
+// The value on success, else the place.
+fn value(a: Answer) -> u64
     ensures { λ r. ⌜ r ≡ valueOf a ⌝ }
 {
     match a {
-        Answer::Done(n) => n,
-        Answer::StepByte(at) => at,
-        Answer::Mode => 0,
-        Answer::Rounds => 0,
-        Answer::KeyLength => 0,
-        Answer::NonceLength => 0,
-        Answer::HeaderLength => 0,
-        Answer::InputLength => 0,
-        Answer::OutputLength => 0,
-        Answer::TagMissing => 0,
-        Answer::TagDiffers => 0,
-        Answer::StartLength => 0,
-        Answer::NetCount => 0,
-        Answer::ListLength => 0,
+        Answer::Done(value) => value,
+        Answer::Refused(_, place) => place,
     }
 }
 
@@ -83,5 +91,15 @@ pub fn code(a: Answer) -> u64
     requires { ⌜ valueOf a < 2 ^ 32 ⌝ }
     ensures { λ r. ⌜ r ≡ codeOf a ⌝ }
 {
-    (number(a) as u64) * 4294967296 + (value(a) as u64)
+    (number(a) as u64) * 4294967296 + value(a)
+}
+
+// The check that an output has room for what success writes.
+pub fn room(needed: usize, lent: usize) -> Check
+    ensures { λ r. ⌜ r ≡ roomOf needed lent ⌝ }
+{
+    if lent < needed {
+        return Check::Fails(Ground::OutputLength, 0);
+    }
+    Check::Clear
 }

@@ -1,5 +1,5 @@
--- The words of a table that the bits of a number choose: the choice keeps exclusive or, and one bit alone chooses its row.
--- Assumes nothing.
+-- The words of a table that the bits of a number choose: the choice keeps exclusive or, one bit alone chooses its row, and a form of
+-- it is computed fast. Assumes nothing.
 use mathlib.Core.Path.{_≡_, refl, sym, ap, ap₂, _∙_}
 use mathlib.Core.Bool.{true}
 use mathlib.Core.List.{List}
@@ -10,11 +10,11 @@ use native.Mathlib.Decide.{decLt}
 use lib.Dec.{eqb, lit<}
 use lib.ListN.{length, getD, List·getD-eq-default}
 use lib.Pow.{pow-pos, pow-lt, pow-add, shl-shr}
-use lib.Bits.{bitXor, xor-lt, xor-self, xor-zero-r, xor-shr, xor-mod}
+use lib.Bits.{bitXor, xor-lt, xor-self, xor-zero-l, xor-zero-r, xor-shr, xor-mod}
 use Rattle.words.proofs.Truth.{allBelow, equal-below}
 use Rattle.words.proofs.Xor.{Digit, off, on, digit, xor-swap}
+use Rattle.words.proofs.Linear.{OnWord, zero-kept}
 use Rattle.back_steps.specs.BackSteps.{chosen}
-use Rattle.masks.proofs.Linear.{OnWord, zero-kept}
 
 -- ---- a word times a bit
 
@@ -45,6 +45,8 @@ bit-below j n h =
     let e : suc d + n ≡ j = omega arith in
     ap (λ (k : ℕ). 2 ^ k / 2 ^ n % 2) (sym e) ∙ ap (λ (k : ℕ). k / 2 ^ n % 2) (pow-add 2 (suc d) n)
     ∙ ap (λ (k : ℕ). k % 2) (shl-shr (2 ^ suc d) n ∙ pow-suc 2 d) ∙ mul-mod-left (2 ^ d) 2
+
+-- ---- the words that the bits choose
 
 module _ (t : List ℕ) (small : (i : ℕ) → getD t i 0 < 2 ^ 64) (at step : ℕ) where
   chosen-fits : (n e : ℕ) → chosen t at step e n < 2 ^ 64
@@ -86,7 +88,31 @@ module _ (t : List ℕ) (small : (i : ℕ) → getD t i 0 < 2 ^ 64) (at step : �
         rw (e, bit-on n, below n n (omega arith), mul-one) (xor-zero-r (getD t (at + step * n) 0))
   ]
 
--- the words of a table are below 2^64: one test, carried to each
+-- ---- the same, computed fast
+
+-- r, exclusive or the word w where the bit is on
+unfoldable pub ifOn : ℕ → ℕ → ℕ → ℕ
+ifOn zero w r = r
+ifOn (suc d) w r = bitXor w r
+
+-- the choice, in which the rows of the bits that are off are not read
+unfoldable pub sparse : List ℕ → ℕ → ℕ → ℕ → ℕ → ℕ
+sparse t at step e zero = 0
+sparse t at step e (suc n) = ifOn (e / 2 ^ n % 2) (getD t (at + step * n) 0) (sparse t at step e n)
+
+times-ifOn : (w r d : ℕ) → Digit d → bitXor (w * d) r ≡ ifOn d w r
+unfolding ifOn
+times-ifOn w r d off = rw mul-zero (xor-zero-l r)
+times-ifOn w r d on = rw mul-one
+
+pub chosen-sparse : (t : List ℕ) (at step e n : ℕ) → chosen t at step e n ≡ sparse t at step e n
+unfolding chosen sparse
+chosen-sparse t at step e zero = refl
+chosen-sparse t at step e (suc n) = rw (chosen-sparse t at step e n) (times-ifOn (getD t (at + step * n) 0) (sparse t at step e n) (e / 2 ^ n % 2) (bit e n))
+
+-- ---- the words of a table
+
+-- they are below 2^64: one test, carried to each
 pub small-words : (t : List ℕ) → allBelow (λ i. eqb (getD t i 0 / 2 ^ 64) 0) (length t) ≡ true → (i : ℕ) → getD t i 0 < 2 ^ 64
 small-words t p i = elim (decLt i (length t)) [
   | yes h ↦ let e : getD t i 0 / 2 ^ 64 ≡ 0 = equal-below (λ i. getD t i 0 / 2 ^ 64) (λ i. 0) (length t) p i h in omega arith

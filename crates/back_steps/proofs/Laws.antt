@@ -1,62 +1,61 @@
--- The laws of the back steps: a step and its back step undo each other and keep exclusive or, what commutes with a step commutes with
--- its back step, and a back step's value is the only block whose forward step gives the block at hand. Assumes nothing.
+-- The laws of the back steps: a step and its back step undo each other and keep exclusive or, and a back step's value is the only
+-- block whose forward step gives the block at hand. Assumes nothing.
 use mathlib.Core.Path.{_≡_, sym, ap, ap₂, _∙_}
 use mathlib.Core.List.{List}
 use Prim.Native.Nat.{ℕ}
 use Rattle.words.specs.Block.{Block, xorBlock}
+use Rattle.words.specs.Undo.{Undo}
 use Rattle.words.proofs.Blocks.{xor-block}
+use Rattle.words.proofs.Maps.{undo-flip}
 use Rattle.masks.specs.Steps.{alpha, beta, gamma, OnlyBlock}
-use Rattle.back_steps.specs.BackSteps.{backAlpha, backBeta, backGamma, BackSteps, Step}
-use Rattle.back_steps.proofs.Runs.{backAlpha-block, alpha-undo, alpha-redo}
-use Rattle.masks.proofs.Laws.{alpha-block, alpha-linear, beta-block, gamma-block, beta-linear, gamma-linear}
-use Rattle.back_steps.proofs.Undoing.{backBeta-block, beta-undo, beta-redo, backGamma-block, gamma-undo, gamma-redo}
+use Rattle.masks.proofs.Laws.{Linear, alpha-linear, beta-linear, gamma-linear}
+use Rattle.back_steps.specs.BackSteps.{backAlpha, backBeta, backGamma, BackSteps}
+use Rattle.back_steps.proofs.BackAlpha.{alpha-undo}
+use Rattle.back_steps.proofs.Undoing.{beta-undo, gamma-undo}
 
--- ---- steps and back steps
+-- ---- what a step's way back gives
 
-pub alpha-step : Step alpha backAlpha
-alpha-step = record { on = alpha-block; off = backAlpha-block; undo = alpha-undo; redo = alpha-redo; linear = alpha-linear }
-
-pub beta-step : Step beta backBeta
-beta-step = record { on = beta-block; off = backBeta-block; undo = beta-undo; redo = beta-redo; linear = beta-linear }
-
-pub gamma-step : Step gamma backGamma
-gamma-step = record { on = gamma-block; off = backGamma-block; undo = gamma-undo; redo = gamma-redo; linear = gamma-linear }
-
-module _ (f g : List ℕ → List ℕ) (step : Step f g) where
-  -- the back step's value is the only block whose forward step gives the block at hand
+module _ {f g : List ℕ → List ℕ} (undo : Undo Block f g) where
+  -- the only block whose forward step gives the block at hand
   pub only-back : (s : List ℕ) → Block s → OnlyBlock f s (g s)
   only-back s h = record {
-    block = step .off s h;
-    leads = step .redo s h;
-    only = λ t ht e. sym (step .undo t ht) ∙ ap g e;
+    block = undo .back-keeps s h;
+    leads = undo .forth-back s h;
+    only = λ t ht e. sym (undo .back-forth t ht) ∙ ap g e;
   }
 
   -- what a back step's contract says of a block that is the definition's
   pub back-meets : (s r : List ℕ) → Block s → r ≡ g s → (r ≡ g s) × OnlyBlock f s r
   back-meets s r h e = (e, rw e (only-back s h))
 
-  -- the back step keeps exclusive or
-  pub back-linear : (s t : List ℕ) → Block s → Block t → g (xorBlock s t) ≡ xorBlock (g s) (g t)
-  back-linear s t hs ht =
-      sym
-      (ap g (step .linear (g s) (g t) (step .off s hs) (step .off t ht) ∙ ap₂ xorBlock (step .redo s hs) (step .redo t ht)))
-      ∙ step .undo (xorBlock (g s) (g t)) (xor-block (g s) (g t) (step .off s hs) (step .off t ht))
-
-  -- the back step is a step, with the forward step as its back step
-  pub back-step : Step g f
-  back-step = record { on = step .off; off = step .on; undo = step .redo; redo = step .undo; linear = back-linear }
-
-  -- what commutes with a step commutes with its back step
-  pub commute-back : (k : List ℕ → List ℕ) → ((s : List ℕ) → Block s → Block (k s)) → ((s : List ℕ) → Block s → f (k s) ≡ k (f s))
-      → (s : List ℕ) → Block s → g (k s) ≡ k (g s)
-  commute-back k on c s h =
-      let hg = step .off s h in
-      ap (λ (t : List ℕ). g (k t)) (sym (step .redo s h)) ∙ ap g (sym (c (g s) hg)) ∙ step .undo (k (g s)) (on (g s) hg)
+  -- the way back of a step that keeps exclusive or keeps it too
+  back-linear : Linear f → Linear g
+  back-linear linear s t hs ht =
+      let bs = undo .back-keeps s hs in
+      let bt = undo .back-keeps t ht in
+      sym (ap g (linear (g s) (g t) bs bt ∙ ap₂ xorBlock (undo .forth-back s hs) (undo .forth-back t ht)))
+      ∙ undo .back-forth (xorBlock (g s) (g t)) (xor-block (g s) (g t) bs bt)
 
 -- each back step's value is the only block whose forward step gives the block at hand
 pub back-steps : BackSteps
-back-steps = record {
-  alpha-only = only-back alpha backAlpha alpha-step;
-  beta-only = only-back beta backBeta beta-step;
-  gamma-only = only-back gamma backGamma gamma-step;
-}
+back-steps = record { alpha-only = only-back alpha-undo; beta-only = only-back beta-undo; gamma-only = only-back gamma-undo }
+
+-- ---- steps that keep exclusive or
+
+-- a step and its way back: they undo each other on blocks, and the step keeps exclusive or
+pub record Step (forward back : List ℕ → List ℕ) : Type 0 where
+  pub undo : Undo Block forward back
+  pub linear : Linear forward
+
+pub alpha-step : Step alpha backAlpha
+alpha-step = record { undo = alpha-undo; linear = alpha-linear }
+
+pub beta-step : Step beta backBeta
+beta-step = record { undo = beta-undo; linear = beta-linear }
+
+pub gamma-step : Step gamma backGamma
+gamma-step = record { undo = gamma-undo; linear = gamma-linear }
+
+-- the way back is such a step too
+pub back-step : {f g : List ℕ → List ℕ} → Step f g → Step g f
+back-step step = record { undo = undo-flip (step .undo); linear = back-linear (step .undo) (step .linear) }

@@ -1,6 +1,5 @@
 pub mod Chosen
 pub mod Solving
-pub mod Runs
+pub mod BackAlpha
 pub mod Undoing
 pub mod Laws
-pub mod Arrays

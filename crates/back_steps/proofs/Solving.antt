@@ -5,16 +5,23 @@ use Prim.Native.Nat.{ℕ, _+_, _-_, _*_, _/_, _%_, _^_, _<_}
 use native.Mathlib.Nat.{mul-mod-left, mod-eq-of-lt, div-eq-of-lt}
 use native.Mathlib.Omega.{arith}
 use native.Mathlib.Decide.{decLt}
+use lib.Dec.{lit<}
 use lib.ListN.{getD}
 use lib.Pow.{pow-lt, pow-add, shl-shr}
 use lib.Bits.{bitXor, xor-zero-r}
 use Rattle.words.specs.Word.{rotR, rotL, shl}
 use Rattle.words.proofs.Truth.{allBelow, equal-below}
+use Rattle.words.proofs.Linear.{OnWord, OnPair, joined, onJoined, word-id, word-xor, word-after, word-rotL, word-shl, word-same, pair-xor, pair-after, pair-same}
 use Rattle.back_steps.specs.Tables.{betaTable, gammaTable}
 use Rattle.back_steps.specs.BackSteps.{chosen, betaWord, gammaWord}
-use Rattle.masks.proofs.Laws.{word-rotL, word-shl}
-use Rattle.masks.proofs.Linear.{OnWord, OnPair, joined, onJoined, word-id, word-xor, word-after, word-same, pair-xor, pair-after, pair-same}
-use Rattle.back_steps.proofs.Chosen.{word-chosen, chosen-zero, chosen-unit, small-words}
+use Rattle.back_steps.proofs.Chosen.{word-chosen, chosen-zero, chosen-unit, ifOn, sparse, chosen-sparse, small-words}
+
+-- the two maps that alpha's new word is made of
+rotated : OnWord (rotL 53)
+rotated = word-rotL 53 (lit< tt)
+
+shifted : OnWord (shl 13)
+shifted = word-shl 13
 
 -- ---- backward beta: one word
 
@@ -24,7 +31,7 @@ betaOn x = bitXor (bitXor (rotL 53 x) (shl 13 x)) x
 
 word-betaOn : OnWord betaOn
 unfolding betaOn
-word-betaOn = word-xor (λ x. bitXor (rotL 53 x) (shl 13 x)) (λ x. x) (word-xor (rotL 53) (shl 13) word-rotL word-shl) word-id
+word-betaOn = word-xor (λ x. bitXor (rotL 53 x) (shl 13 x)) (λ x. x) (word-xor (rotL 53) (shl 13) rotated shifted) word-id
 
 beta-small : (i : ℕ) → getD betaTable i 0 < 2 ^ 64
 unfolding betaTable allBelow
@@ -65,13 +72,13 @@ pair-gammaX : OnPair gammaX
 unfolding gammaX
 pair-gammaX =
     pair-xor (λ x. bitXor (rotL 53 x) (shl 13 x)) (λ y. bitXor (shl 13 y) y)
-    (word-xor (rotL 53) (shl 13) word-rotL word-shl) (word-xor (shl 13) (λ y. y) word-shl word-id)
+    (word-xor (rotL 53) (shl 13) rotated shifted) (word-xor (shl 13) (λ y. y) shifted word-id)
 
 pair-gammaY : OnPair gammaY
 unfolding gammaY
 pair-gammaY =
     pair-xor (λ x. bitXor x (shl 13 x)) (λ y. bitXor y (rotL 53 y))
-    (word-xor (λ x. x) (shl 13) word-id word-shl) (word-xor (λ y. y) (rotL 53) word-id word-rotL)
+    (word-xor (λ x. x) (shl 13) word-id shifted) (word-xor (λ y. y) (rotL 53) word-id rotated)
 
 gamma-small : (i : ℕ) → getD gammaTable i 0 < 2 ^ 64
 unfolding gammaTable allBelow
@@ -114,17 +121,30 @@ gamma-solved =
     (pair-after gammaY (gammaWord gammaTable 0) (gammaWord gammaTable 1) pair-gammaY (pair-gammaWord 0) (pair-gammaWord 1))
     (λ k h. ap₂ (λ (x y : ℕ). joined (gammaX x y) (gammaY x y)) (gamma-unit 0 k h) (gamma-unit 1 k h) ∙ gamma-rule k h)
 
-gamma-units : (k : ℕ) → k < 128
-    → onJoined (λ x y. gammaWord gammaTable 0 (gammaX x y) (gammaY x y)) (λ x y. gammaWord gammaTable 1 (gammaX x y) (gammaY x y)) (2 ^ k) ≡ 2 ^ k
-unfolding gammaTable chosen allBelow gammaX gammaY rotL rotR shl joined onJoined gammaWord
-gamma-units =
-    equal-below (λ k. onJoined (λ x y. gammaWord gammaTable 0 (gammaX x y) (gammaY x y)) (λ x y. gammaWord gammaTable 1 (gammaX x y) (gammaY x y)) (2 ^ k))
-    (λ k. 2 ^ k) 128 refl
+-- the words that are solved for, as the test below computes them
+unfoldable sparseWord : ℕ → ℕ → ℕ → ℕ
+sparseWord at e f = bitXor (sparse gammaTable at 2 e 64) (sparse gammaTable (at + 128) 2 f 64)
+
+word-sparse : (at e f : ℕ) → gammaWord gammaTable at e f ≡ sparseWord at e f
+unfolding gammaWord sparseWord
+word-sparse at e f = ap₂ bitXor (chosen-sparse gammaTable at 2 e 64) (chosen-sparse gammaTable (at + 128) 2 f 64)
+
+-- a map of what two words solve
+abbrev ofSides : (ℕ → ℕ → ℕ) → ℕ → ℕ → ℕ
+ofSides f x y = f (gammaX x y) (gammaY x y)
+
+gamma-test : (k : ℕ) → k < 128 → onJoined (ofSides (sparseWord 0)) (ofSides (sparseWord 1)) (2 ^ k) ≡ 2 ^ k
+unfolding gammaTable sparse ifOn allBelow gammaX gammaY rotL rotR shl joined onJoined sparseWord
+gamma-test = equal-below (λ k. onJoined (ofSides (sparseWord 0)) (ofSides (sparseWord 1)) (2 ^ k)) (λ k. 2 ^ k) 128 refl
+
+gamma-units : (k : ℕ) → k < 128 → onJoined (ofSides (gammaWord gammaTable 0)) (ofSides (gammaWord gammaTable 1)) (2 ^ k) ≡ 2 ^ k
+unfolding onJoined
+gamma-units k h = ap₂ joined (word-sparse 0 _ _) (word-sparse 1 _ _) ∙ gamma-test k h
 
 pub gamma-found : (x y : ℕ) → x < 2 ^ 64 → y < 2 ^ 64
     → (gammaWord gammaTable 0 (gammaX x y) (gammaY x y) ≡ x) × (gammaWord gammaTable 1 (gammaX x y) (gammaY x y) ≡ y)
 gamma-found =
-    pair-same (λ x y. gammaWord gammaTable 0 (gammaX x y) (gammaY x y)) (λ x y. gammaWord gammaTable 1 (gammaX x y) (gammaY x y))
+    pair-same (ofSides (gammaWord gammaTable 0)) (ofSides (gammaWord gammaTable 1))
     (pair-after (gammaWord gammaTable 0) gammaX gammaY (pair-gammaWord 0) pair-gammaX pair-gammaY)
     (pair-after (gammaWord gammaTable 1) gammaX gammaY (pair-gammaWord 1) pair-gammaX pair-gammaY)
     gamma-units

@@ -1,5 +1,5 @@
--- Beta and gamma are undone by their back steps, and redo them: the first words of a block are the only ones that meet the
--- condition on the new words. Assumes nothing.
+-- Back beta and back gamma undo beta and gamma, which undo them: the first words of a block are the only ones that meet the condition
+-- on the new words. Assumes nothing.
 use mathlib.Core.Path.{_≡_, refl, sym, ap, ap₂, _∙_}
 use mathlib.Core.List.{List}
 use Prim.Native.Nat.{ℕ, zero, suc, _+_, _^_, _<_}
@@ -8,30 +8,22 @@ use native.Mathlib.Omega.{arith}
 use lib.Dec.{lit<}
 use lib.ListN.{getD}
 use lib.Pow.{pow-pos}
-use lib.Bits.{bitXor, xor-lt, xor-self, xor-comm, xor-zero-l, xor-zero-r}
+use lib.Bits.{bitXor, xor-lt, xor-comm, xor-zero-r}
 use Rattle.words.specs.Sequence.{tab}
 use Rattle.words.specs.Word.{shl}
 use Rattle.words.specs.Block.{Block}
-use Rattle.words.proofs.Lists.{tab-ext}
+use Rattle.words.specs.Undo.{Undo}
+use Rattle.words.proofs.Lists.{getD-tab, tab-ext}
 use Rattle.words.proofs.Words.{shl-lt, shl-xor}
-use Rattle.words.proofs.Xor.{xor-assoc, xor-cancel-l, xor-cancel-r, xor-swap}
-use Rattle.words.proofs.Blocks.{block-tab, block-is}
+use Rattle.words.proofs.Xor.{xor-assoc, xor-left, xor-cancel-l, xor-cancel-r, xor-swap, same-where}
+use Rattle.words.proofs.Blocks.{block-tab, block-is, block-ext}
 use Rattle.masks.specs.Steps.{alphaW, beta, gamma}
+use Rattle.masks.specs.Run.{run}
+use Rattle.masks.proofs.Laws.{beta-block, gamma-block}
+use Rattle.masks.proofs.Run.{run-lt, run-at, run-new, run-of, run-beta, run-gamma}
 use Rattle.back_steps.specs.Tables.{gammaTable}
 use Rattle.back_steps.specs.BackSteps.{betaRun, betaSide, betaWord, backBeta, gammaRun, gammaSide, gammaWord, backGamma}
 use Rattle.back_steps.proofs.Solving.{betaOn, word-betaWord, beta-solved, beta-found, gammaX, gammaY, pair-gammaWord, gamma-solved, gamma-found}
-use Rattle.back_steps.proofs.Runs.{run, run-lt, run-at, run-new, run-of, beta-at, gamma-at}
-use Rattle.masks.proofs.Laws.{block-ext, beta-block, gamma-block}
-
--- ---- exclusive or
-
--- two words are equal where their exclusive or is that of two equal words
-same-where : (a c u v : ℕ) → bitXor a c ≡ bitXor u v → u ≡ v → a ≡ c
-same-where a c u v e q =
-    sym (xor-cancel-r a c) ∙ ap (λ (z : ℕ). bitXor z c) (e ∙ ap (λ (z : ℕ). bitXor z v) q ∙ xor-self v) ∙ xor-zero-l c
-
-xor-left : (a b c : ℕ) → bitXor a (bitXor b c) ≡ bitXor b (bitXor a c)
-xor-left a b c = sym (xor-assoc a b c) ∙ ap (λ (z : ℕ). bitXor z c) (xor-comm a b) ∙ xor-assoc b a c
 
 -- sides that differ in the order alone
 ruleset sorted = (xor-assoc, xor-comm, xor-left)
@@ -66,30 +58,37 @@ beta-condition b x = rw (beta-from b x 5, beta-from b x 16, shl-xor) (simp sorte
 abbrev onlyWord : List ℕ → ℕ
 onlyWord b = betaWord (betaSide b)
 
+-- word i of beta of a block, from the block's run
+beta-word : (s : List ℕ) → Block s → (i : ℕ) → i < 16 → getD (beta s) i 0 ≡ bitXor (run s (i + 1)) (run s i)
+beta-word s h i p = sym (run-at (beta s) (beta-block s h .long) i p) ∙ run-beta s h i
+
 module _ (b : List ℕ) (h : Block b) where
   beta-word-lt : betaWord (betaSide b) < 2 ^ 64
   beta-word-lt = word-betaWord .fits (betaSide b) (beta-side-lt b h)
 
-  pub backBeta-block : Block (backBeta b)
+  backBeta-block : Block (backBeta b)
   unfolding backBeta
   backBeta-block = block-tab (betaRun b (onlyWord b)) (λ i p. beta-fits b h (onlyWord b) beta-word-lt i)
 
   -- the words of the solution go on as the run does
   beta-runs : (i : ℕ) → i < 17 → run (backBeta b) i ≡ betaRun b (onlyWord b) i
   unfolding backBeta betaRun
-  beta-runs = run-of (betaRun b (onlyWord b)) backBeta-block 1 (lit< tt) new
+  beta-runs = run-of (backBeta b) (backBeta-block .long) u (λ i p. sym (getD-tab u 16 i p)) 1 new
     where
-      new : (n : ℕ) → n < 1 → alphaW (betaRun b (onlyWord b) n) (betaRun b (onlyWord b) (n + 5)) ≡ betaRun b (onlyWord b) (n + 16)
-      new zero p = same-where _ _ _ _ (beta-condition b (onlyWord b)) (beta-solved (betaSide b) (beta-side-lt b h))
+      u : ℕ → ℕ
+      u = betaRun b (onlyWord b)
+
+      new : (n : ℕ) → n < 1 → u (n + 16) ≡ alphaW (u n) (u (n + 5))
+      new zero p = sym (same-where _ _ _ _ (beta-condition b (onlyWord b)) (beta-solved (betaSide b) (beta-side-lt b h)))
       new (suc n) p = absurd (omega arith)
 
-  pub beta-redo : beta (backBeta b) ≡ b
-  beta-redo = block-ext (beta (backBeta b)) b (beta-block (backBeta b) backBeta-block) h word
+  beta-backBeta : beta (backBeta b) ≡ b
+  beta-backBeta = block-ext (beta (backBeta b)) b (beta-block (backBeta b) backBeta-block) h word
     where
       word : (i : ℕ) → i < 16 → getD (beta (backBeta b)) i 0 ≡ getD b i 0
       word i p =
           let x = onlyWord b in
-          beta-at (backBeta b) backBeta-block i p ∙ ap₂ bitXor (beta-runs (i + 1) (omega arith) ∙ beta-next b x i) (beta-runs i (omega arith))
+          beta-word (backBeta b) backBeta-block i p ∙ ap₂ bitXor (beta-runs (i + 1) (omega arith) ∙ beta-next b x i) (beta-runs i (omega arith))
           ∙ xor-comm (bitXor (betaRun b x i) (getD b i 0)) (betaRun b x i) ∙ xor-cancel-l (betaRun b x i) (getD b i 0)
 
 module _ (s : List ℕ) (h : Block s) where
@@ -98,22 +97,25 @@ module _ (s : List ℕ) (h : Block s) where
   unfolding betaRun
   beta-follows zero p = refl
   beta-follows (suc i) p =
-      ap₂ bitXor (beta-follows i (omega arith)) (beta-at s h i (omega arith) ∙ xor-comm (run s (i + 1)) (run s i))
+      ap₂ bitXor (beta-follows i (omega arith)) (beta-word s h i (omega arith) ∙ xor-comm (run s (i + 1)) (run s i))
       ∙ xor-cancel-l (run s i) (run s (i + 1)) ∙ ap (run s) (add-one i)
 
   beta-first-word : betaWord (betaSide (beta s)) ≡ run s 0
   beta-first-word =
       ap betaWord
       (sym (same-where _ _ _ _ (sym (beta-condition (beta s) (run s 0)))
-      (ap (alphaW (run s 0)) (beta-follows 5 (lit< tt)) ∙ sym (run-new s h 0) ∙ sym (beta-follows 16 (lit< tt)))))
+      (ap (alphaW (run s 0)) (beta-follows 5 (lit< tt)) ∙ sym (run-new s (h .long) 0) ∙ sym (beta-follows 16 (lit< tt)))))
       ∙ beta-found (run s 0) (run-lt s h 0)
 
-  pub beta-undo : backBeta (beta s) ≡ s
+  backBeta-beta : backBeta (beta s) ≡ s
   unfolding backBeta
-  beta-undo =
+  backBeta-beta =
       ap (λ (x : ℕ). tab (betaRun (beta s) x) 16) beta-first-word
-      ∙ tab-ext (betaRun (beta s) (run s 0)) (λ i. getD s i 0) 16 (λ i p. beta-follows i (omega arith) ∙ sym (run-at s h i p))
+      ∙ tab-ext (betaRun (beta s) (run s 0)) (λ i. getD s i 0) 16 (λ i p. beta-follows i (omega arith) ∙ run-at s (h .long) i p)
       ∙ sym (block-is s h)
+
+pub beta-undo : Undo Block beta backBeta
+beta-undo = record { forth-keeps = beta-block; back-keeps = backBeta-block; back-forth = backBeta-beta; forth-back = beta-backBeta }
 
 -- ---- backward gamma
 
@@ -200,11 +202,15 @@ firstWord b = gammaWord gammaTable 0 (gammaSide b 0) (gammaSide b 1)
 abbrev secondWord : List ℕ → ℕ
 secondWord b = gammaWord gammaTable 1 (gammaSide b 0) (gammaSide b 1)
 
+-- word i of gamma of a block, from the block's run
+gamma-word : (s : List ℕ) → Block s → (i : ℕ) → i < 16 → getD (gamma s) i 0 ≡ bitXor (bitXor (run s (i + 2)) (run s (i + 1))) (run s i)
+gamma-word s h i p = sym (run-at (gamma s) (gamma-block s h .long) i p) ∙ run-gamma s h i
+
 module _ (b : List ℕ) (h : Block b) where
   gamma-word-lt : (at : ℕ) → gammaWord gammaTable at (gammaSide b 0) (gammaSide b 1) < 2 ^ 64
   gamma-word-lt at = pair-gammaWord at .fits (gammaSide b 0) (gammaSide b 1) (gamma-side-lt b h 0) (gamma-side-lt b h 1)
 
-  pub backGamma-block : Block (backGamma b)
+  backGamma-block : Block (backGamma b)
   unfolding backGamma
   backGamma-block =
       block-tab (gammaRun b (firstWord b) (secondWord b)) (λ i p. gamma-fits b h (firstWord b) (secondWord b) (gamma-word-lt 0) (gamma-word-lt 1) i)
@@ -212,24 +218,26 @@ module _ (b : List ℕ) (h : Block b) where
   -- the words of the solution go on as the run does
   gamma-runs : (i : ℕ) → i < 18 → run (backGamma b) i ≡ gammaRun b (firstWord b) (secondWord b) i
   unfolding backGamma gammaRun
-  gamma-runs = run-of (gammaRun b (firstWord b) (secondWord b)) backGamma-block 2 (lit< tt) new
+  gamma-runs = run-of (backGamma b) (backGamma-block .long) u (λ i p. sym (getD-tab u 16 i p)) 2 new
     where
+      u : ℕ → ℕ
+      u = gammaRun b (firstWord b) (secondWord b)
+
       solved : (gammaX (firstWord b) (secondWord b) ≡ gammaSide b 0) × (gammaY (firstWord b) (secondWord b) ≡ gammaSide b 1)
       solved = gamma-solved (gammaSide b 0) (gammaSide b 1) (gamma-side-lt b h 0) (gamma-side-lt b h 1)
 
-      new : (n : ℕ) → n < 2
-          → alphaW (gammaRun b (firstWord b) (secondWord b) n) (gammaRun b (firstWord b) (secondWord b) (n + 5)) ≡ gammaRun b (firstWord b) (secondWord b) (n + 16)
-      new zero p = same-where _ _ _ _ (gamma-condition-x b (firstWord b) (secondWord b)) (solved .0)
-      new (suc zero) p = same-where _ _ _ _ (gamma-condition-y b (firstWord b) (secondWord b)) (solved .1)
+      new : (n : ℕ) → n < 2 → u (n + 16) ≡ alphaW (u n) (u (n + 5))
+      new zero p = sym (same-where _ _ _ _ (gamma-condition-x b (firstWord b) (secondWord b)) (solved .0))
+      new (suc zero) p = sym (same-where _ _ _ _ (gamma-condition-y b (firstWord b) (secondWord b)) (solved .1))
       new (suc (suc n)) p = absurd (omega arith)
 
-  pub gamma-redo : gamma (backGamma b) ≡ b
-  gamma-redo = block-ext (gamma (backGamma b)) b (gamma-block (backGamma b) backGamma-block) h word
+  gamma-backGamma : gamma (backGamma b) ≡ b
+  gamma-backGamma = block-ext (gamma (backGamma b)) b (gamma-block (backGamma b) backGamma-block) h word
     where
       word : (i : ℕ) → i < 16 → getD (gamma (backGamma b)) i 0 ≡ getD b i 0
       word i p =
           let u = gammaRun b (firstWord b) (secondWord b) in
-          gamma-at (backGamma b) backGamma-block i p
+          gamma-word (backGamma b) backGamma-block i p
           ∙ ap₂ bitXor
           (ap₂ bitXor (gamma-runs (i + 2) (omega arith) ∙ gamma-next b (firstWord b) (secondWord b) i) (gamma-runs (i + 1) (omega arith)))
           (gamma-runs i (omega arith))
@@ -246,22 +254,25 @@ module _ (s : List ℕ) (h : Block s) where
   gamma-follows (suc (suc i)) p =
       ap₂ bitXor
       (ap₂ bitXor (gamma-follows (suc i) (omega arith) ∙ ap (run s) (sym (add-one i))) (gamma-follows i (omega arith)))
-      (gamma-at s h i (omega arith) ∙ xor-assoc (run s (i + 2)) (run s (i + 1)) (run s i) ∙ xor-comm (run s (i + 2)) (bitXor (run s (i + 1)) (run s i)))
+      (gamma-word s h i (omega arith) ∙ xor-assoc (run s (i + 2)) (run s (i + 1)) (run s i) ∙ xor-comm (run s (i + 2)) (bitXor (run s (i + 1)) (run s i)))
       ∙ xor-cancel-l (bitXor (run s (i + 1)) (run s i)) (run s (i + 2)) ∙ ap (run s) (add-two i)
 
   gamma-new : (n : ℕ) → n < 2
       → alphaW (run s n) (gammaRun (gamma s) (run s 0) (run s 1) (n + 5)) ≡ gammaRun (gamma s) (run s 0) (run s 1) (n + 16)
   gamma-new n p =
-      ap (alphaW (run s n)) (gamma-follows (n + 5) (omega arith)) ∙ sym (run-new s h n) ∙ sym (gamma-follows (n + 16) (omega arith))
+      ap (alphaW (run s n)) (gamma-follows (n + 5) (omega arith)) ∙ sym (run-new s (h .long) n) ∙ sym (gamma-follows (n + 16) (omega arith))
 
-  pub gamma-undo : backGamma (gamma s) ≡ s
+  backGamma-gamma : backGamma (gamma s) ≡ s
   unfolding backGamma
-  gamma-undo =
+  backGamma-gamma =
       let found = gamma-found (run s 0) (run s 1) (run-lt s h 0) (run-lt s h 1) in
       let x = sym (same-where _ _ _ _ (sym (gamma-condition-x (gamma s) (run s 0) (run s 1))) (gamma-new 0 (lit< tt))) in
       let y = sym (same-where _ _ _ _ (sym (gamma-condition-y (gamma s) (run s 0) (run s 1))) (gamma-new 1 (lit< tt))) in
       ap₂ (λ (x y : ℕ). tab (gammaRun (gamma s) x y) 16)
       (ap₂ (gammaWord gammaTable 0) x y ∙ found .0)
       (ap₂ (gammaWord gammaTable 1) x y ∙ found .1)
-      ∙ tab-ext (gammaRun (gamma s) (run s 0) (run s 1)) (λ i. getD s i 0) 16 (λ i p. gamma-follows i (omega arith) ∙ sym (run-at s h i p))
+      ∙ tab-ext (gammaRun (gamma s) (run s 0) (run s 1)) (λ i. getD s i 0) 16 (λ i p. gamma-follows i (omega arith) ∙ run-at s (h .long) i p)
       ∙ sym (block-is s h)
+
+pub gamma-undo : Undo Block gamma backGamma
+gamma-undo = record { forth-keeps = gamma-block; back-keeps = backGamma-block; back-forth = backGamma-gamma; forth-back = gamma-backGamma }

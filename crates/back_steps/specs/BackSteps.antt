@@ -1,13 +1,12 @@
 -- The three back steps (document 01, "Masks"). A reader need not believe the ways of solving for words here, or the numbers of their
 -- tables: theorem back-steps (proofs/Laws) shows each value to be the only block whose forward step gives the block at hand.
 -- Assumes nothing.
-use mathlib.Core.Path.{_≡_}
 use mathlib.Core.List.{List, _∷_}
 use Prim.Native.Nat.{ℕ, zero, suc, _+_, _*_, _/_, _%_, _^_}
 use lib.ListN.{getD, take}
 use lib.Bits.{bitXor}
 use Rattle.words.specs.Sequence.{tab}
-use Rattle.words.specs.Block.{Block, xorBlock}
+use Rattle.words.specs.Block.{Block}
 use Rattle.masks.specs.Steps.{alpha, beta, gamma, OnlyBlock}
 use Rattle.words.specs.Word.{rotR, shl}
 use Rattle.back_steps.specs.Tables.{betaTable, gammaTable}
@@ -65,11 +64,3 @@ pub record BackSteps : Type 0 where
   pub alpha-only : (s : List ℕ) → Block s → OnlyBlock alpha s (backAlpha s)
   pub beta-only : (s : List ℕ) → Block s → OnlyBlock beta s (backBeta s)
   pub gamma-only : (s : List ℕ) → Block s → OnlyBlock gamma s (backGamma s)
-
--- a step and its back step: both keep blocks, each undoes the other, and the step keeps exclusive or
-pub record Step (forward back : List ℕ → List ℕ) : Type 0 where
-  pub on : (s : List ℕ) → Block s → Block (forward s)
-  pub off : (s : List ℕ) → Block s → Block (back s)
-  pub undo : (s : List ℕ) → Block s → back (forward s) ≡ s
-  pub redo : (s : List ℕ) → Block s → forward (back s) ≡ s
-  pub linear : (s t : List ℕ) → Block s → Block t → forward (xorBlock s t) ≡ xorBlock (forward s) (forward t)

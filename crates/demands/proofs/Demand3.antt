@@ -11,12 +11,13 @@ use borrow.Author.Tests.{eq-eqb, le-leb, le-ltb}
 use Rattle.words.specs.Sequence.{zeros, tab, times}
 use Rattle.words.specs.Block.{Block, blockOf, bytesOf, xorBytes}
 use Rattle.words.proofs.Blocks.{length-bytesOf, bytes-bytesOf, block-blockOf, blockOf-bytesOf, bytes-are, bytesOf-xor, blockOf-xor, length-xorBytes, bytes-xorBytes}
-use Rattle.answers.specs.Answers.{refuse}
+use Rattle.answers.specs.Answers.{lineAt, line, room, checked}
 use Rattle.answers.specs.declared.Answer.{Answer}
-use Rattle.answers.specs.declared.Answer.the-variants.{Done, OutputLength}
-use Rattle.back_steps.specs.BackSteps.{Step}
-use Rattle.back_steps.proofs.Laws.{alpha-step, beta-step, gamma-step}
-use Rattle.walking.specs.Walking.{step, walked, taken, jumped, isStep, firstBad, inRange, walkCall, jumpCall}
+use Rattle.answers.specs.declared.Answer.the-variants.{Done}
+use Rattle.words.specs.Undo.{Undo}
+use Rattle.back_steps.proofs.BackAlpha.{alpha-undo}
+use Rattle.back_steps.proofs.Undoing.{beta-undo, gamma-undo}
+use Rattle.walking.specs.Walking.{step, walked, taken, jumped, isStep, firstBad, inRange, walkChecks, jumpChecks, walkCall, jumpCall}
 use Rattle.demands.specs.Demand3.{Start, Steps, count, net, mask, Demand3}
 use Rattle.demands.proofs.Walked.{leads, walked-linear}
 
@@ -57,21 +58,21 @@ net-in-range kind l h =
 -- ---- what walk and jump answer for a start and a list of steps
 
 module _ (start steps out : List ℕ) (a : Start start) (l : Steps steps) where
-  walk-answers : walkCall start steps out ≡ refuse (ltb (length out) 128) OutputLength out (Done 128, bytesOf (walked steps (blockOf start)) ++ drop 128 out)
-  unfolding walkCall refuse
+  walk-answers : walkCall start steps out ≡ checked (room 128 (length out)) out (Done 128, bytesOf (walked steps (blockOf start)) ++ drop 128 out)
+  unfolding walkCall walkChecks line lineAt
   walk-answers =
       let none : firstBad steps ≡ length steps = all-steps steps (l .low) (l .high) in
       rw (eq-eqb (length start) 128 (a .long), le-ltb 4096 (length steps) (l .most), none, le-ltb (length steps) (length steps) (omega arith))
 
   jump-answers : jumpCall start (net 1 steps) (net 2 steps) (net 3 steps) out
-      ≡ refuse (ltb (length out) 128) OutputLength out (Done 128, bytesOf (jumped (net 1 steps) (net 2 steps) (net 3 steps) (blockOf start)) ++ drop 128 out)
-  unfolding jumpCall refuse
+      ≡ checked (room 128 (length out)) out (Done 128, bytesOf (jumped (net 1 steps) (net 2 steps) (net 3 steps) (blockOf start)) ++ drop 128 out)
+  unfolding jumpCall jumpChecks line lineAt
   jump-answers =
       rw (eq-eqb (length start) 128 (a .long), net-in-range 1 steps (l .most), net-in-range 2 steps (l .most), net-in-range 3 steps (l .most))
 
 -- the mask is the walked block's bytes
 mask-is : (start steps : List ℕ) → Start start → Steps steps → mask start steps ≡ bytesOf (walked steps (blockOf start))
-unfolding mask refuse zeros tab
+unfolding mask room line lineAt checked zeros tab
 mask-is start steps a l = ap (λ (r : Answer × List ℕ). r .1) (walk-answers start steps (zeros 128) a l) ∙ append-nil (bytesOf (walked steps (blockOf start)))
 
 block : (start : List ℕ) → Start start → Block (blockOf start)
@@ -91,7 +92,7 @@ walk-is-jump : (start steps out : List ℕ) → Start start → Steps steps
     → walkCall start steps out ≡ jumpCall start (net 1 steps) (net 2 steps) (net 3 steps) out
 walk-is-jump start steps out a l =
     walk-answers start steps out a l
-    ∙ ap (λ (b : List ℕ). refuse (ltb (length out) 128) OutputLength out (Done 128, bytesOf b ++ drop 128 out)) (leads steps (blockOf start) (block start a))
+    ∙ ap (λ (b : List ℕ). checked (room 128 (length out)) out (Done 128, bytesOf b ++ drop 128 out)) (leads steps (blockOf start) (block start a))
     ∙ sym (jump-answers start steps out a l)
 
 zero-nets : (start l : List ℕ) → Start start → Steps l → net 1 l ≡ pos 0 → net 2 l ≡ pos 0 → net 3 l ≡ pos 0 → mask start l ≡ start
@@ -118,14 +119,14 @@ single k low high = record { most = lit≤ tt; low = only (λ n. 1 ≤ n) low; h
     only P p zero h = p
     only P p (suc i) h = absurd (omega arith)
 
--- the forward step of a kind and its back step
-kind-step : (kind : ℕ) → 1 ≤ kind → kind ≤ 3 → Step (step kind) (step (kind + 3))
+-- the forward step of a kind and its back step undo each other
+kind-undo : (kind : ℕ) → 1 ≤ kind → kind ≤ 3 → Undo Block (step kind) (step (kind + 3))
 unfolding step
-kind-step zero p q = absurd (omega arith)
-kind-step (suc zero) p q = alpha-step
-kind-step (suc (suc zero)) p q = beta-step
-kind-step (suc (suc (suc zero))) p q = gamma-step
-kind-step (suc (suc (suc (suc k)))) p q = absurd (omega arith)
+kind-undo zero p q = absurd (omega arith)
+kind-undo (suc zero) p q = alpha-undo
+kind-undo (suc (suc zero)) p q = beta-undo
+kind-undo (suc (suc (suc zero))) p q = gamma-undo
+kind-undo (suc (suc (suc (suc k)))) p q = absurd (omega arith)
 
 mask-step : (k : ℕ) (s : List ℕ) → 1 ≤ k → k ≤ 6 → Start s → mask s (k ∷ []) ≡ bytesOf (step k (blockOf s))
 unfolding walked
@@ -137,7 +138,7 @@ module _ (kind : ℕ) (s : List ℕ) (p : 1 ≤ kind) (q : kind ≤ 3) (a : Star
 
   before-block : Block before
   unfolding before
-  before-block = kind-step kind p q .off (blockOf s) (block s a)
+  before-block = kind-undo kind p q .back-keeps (blockOf s) (block s a)
 
   before-is : mask s ((kind + 3) ∷ []) ≡ bytesOf before
   unfolding before
@@ -149,20 +150,20 @@ module _ (kind : ℕ) (s : List ℕ) (p : 1 ≤ kind) (q : kind ≤ 3) (a : Star
       ap (λ (x : List ℕ). mask x (kind ∷ [])) before-is
       ∙ mask-step kind (bytesOf before) p (omega arith) (start-of before)
       ∙ ap (λ (b : List ℕ). bytesOf (step kind b)) (again-of before before-block)
-      ∙ ap bytesOf (kind-step kind p q .redo (blockOf s) (block s a))
+      ∙ ap bytesOf (kind-undo kind p q .forth-back (blockOf s) (block s a))
       ∙ start-bytes s a
 
   only : (t : List ℕ) → Start t → mask t (kind ∷ []) ≡ s → t ≡ mask s ((kind + 3) ∷ [])
   unfolding before
   only t b e =
       sym (start-bytes t b)
-      ∙ ap bytesOf (sym (kind-step kind p q .undo (blockOf t) (block t b)) ∙ ap (step (kind + 3))
-      (sym (again-of (step kind (blockOf t)) (kind-step kind p q .on (blockOf t) (block t b)))
+      ∙ ap bytesOf (sym (kind-undo kind p q .back-forth (blockOf t) (block t b)) ∙ ap (step (kind + 3))
+      (sym (again-of (step kind (blockOf t)) (kind-undo kind p q .forth-keeps (blockOf t) (block t b)))
       ∙ ap blockOf (sym (mask-step kind t p (omega arith) b) ∙ e)))
       ∙ sym before-is
 
 only-seven : (start steps out : List ℕ) → Start start → Steps steps
-    → walkCall start steps out ≡ refuse (ltb (length out) 128) OutputLength out (Done 128, mask start steps ++ drop 128 out)
+    → walkCall start steps out ≡ checked (room 128 (length out)) out (Done 128, mask start steps ++ drop 128 out)
 only-seven start steps out a l = walk-answers start steps out a l ∙ rw (mask-is start steps a l)
 
 pub demand3 : Demand3

@@ -7,13 +7,16 @@ use lib.IntN.{ℤ}
 use borrow.Author.Tests.{ne-eqb}
 use Rattle.words.specs.Sequence.{times}
 use Rattle.words.specs.Block.{Block, xorBlock}
+use Rattle.words.proofs.Maps.{Keeps, Commute, turn, undo-same, commute-back}
 use Rattle.masks.specs.Steps.{alpha, beta, gamma}
-use Rattle.back_steps.specs.BackSteps.{backAlpha, backBeta, backGamma, Step}
-use Rattle.back_steps.proofs.Laws.{alpha-step, beta-step, gamma-step, back-step, commute-back}
 use Rattle.masks.proofs.Laws.{alpha-beta, alpha-gamma, beta-gamma}
+use Rattle.back_steps.specs.BackSteps.{backAlpha, backBeta, backGamma}
+use Rattle.back_steps.proofs.BackAlpha.{alpha-undo}
+use Rattle.back_steps.proofs.Undoing.{beta-undo, gamma-undo}
+use Rattle.back_steps.proofs.Laws.{Step, alpha-step, beta-step, gamma-step, back-step}
 use Rattle.walking.specs.Walking.{step, walked, taken, jumped}
 use Rattle.demands.specs.Demand3.{count, net}
-use Rattle.demands.proofs.Order.{Keeps, Commute, turn, taken-more, taken-less, taken-keeps, taken-commute}
+use Rattle.demands.proofs.Order.{taken-more, taken-less, taken-keeps, taken-commute}
 
 -- ---- a move ahead of a jump counts for its own kind
 
@@ -23,43 +26,43 @@ module _ (i j k : ℤ) (s : List ℕ) (b : Block s) where
   first h i′ e = ap (λ (x : List ℕ). taken gamma backGamma k (taken beta backBeta j x)) e
 
   reached : Block (taken alpha backAlpha i s)
-  reached = taken-keeps alpha backAlpha alpha-step i s b
+  reached = taken-keeps alpha-undo i s b
 
-  second : (h : List ℕ → List ℕ) (j′ : ℤ) → Keeps h → Commute h alpha
+  second : (h : List ℕ → List ℕ) (j′ : ℤ) → Keeps Block h → Commute Block h alpha
       → ((t : List ℕ) → Block t → taken beta backBeta j (h t) ≡ taken beta backBeta j′ t) → jumped i j k (h s) ≡ jumped i j′ k s
   unfolding jumped
   second h j′ keeps c e =
       ap (taken gamma backGamma k)
-      (ap (taken beta backBeta j) (sym (taken-commute alpha backAlpha alpha-step h keeps c i s b))
+      (ap (taken beta backBeta j) (sym (taken-commute alpha-undo h keeps c i s b))
       ∙ e (taken alpha backAlpha i s) reached)
 
-  third : (h : List ℕ → List ℕ) (k′ : ℤ) → Keeps h → Commute h alpha → Commute h beta
+  third : (h : List ℕ → List ℕ) (k′ : ℤ) → Keeps Block h → Commute Block h alpha → Commute Block h beta
       → ((t : List ℕ) → Block t → taken gamma backGamma k (h t) ≡ taken gamma backGamma k′ t) → jumped i j k (h s) ≡ jumped i j k′ s
   unfolding jumped
   third h k′ keeps c d e =
-      ap (λ (x : List ℕ). taken gamma backGamma k (taken beta backBeta j x)) (sym (taken-commute alpha backAlpha alpha-step h keeps c i s b))
-      ∙ ap (taken gamma backGamma k) (sym (taken-commute beta backBeta beta-step h keeps d j (taken alpha backAlpha i s) reached))
-      ∙ e (taken beta backBeta j (taken alpha backAlpha i s)) (taken-keeps beta backBeta beta-step j (taken alpha backAlpha i s) reached)
+      ap (λ (x : List ℕ). taken gamma backGamma k (taken beta backBeta j x)) (sym (taken-commute alpha-undo h keeps c i s b))
+      ∙ ap (taken gamma backGamma k) (sym (taken-commute beta-undo h keeps d j (taken alpha backAlpha i s) reached))
+      ∙ e (taken beta backBeta j (taken alpha backAlpha i s)) (taken-keeps beta-undo j (taken alpha backAlpha i s) reached)
 
 -- ---- any two moves commute
 
-beta-alpha : Commute beta alpha
+beta-alpha : Commute Block beta alpha
 beta-alpha = turn alpha beta alpha-beta
 
-gamma-alpha : Commute gamma alpha
+gamma-alpha : Commute Block gamma alpha
 gamma-alpha = turn alpha gamma alpha-gamma
 
-gamma-beta : Commute gamma beta
+gamma-beta : Commute Block gamma beta
 gamma-beta = turn beta gamma beta-gamma
 
-backBeta-alpha : Commute backBeta alpha
-backBeta-alpha = commute-back beta backBeta beta-step alpha (alpha-step .on) beta-alpha
+backBeta-alpha : Commute Block backBeta alpha
+backBeta-alpha = commute-back beta-undo alpha (alpha-undo .forth-keeps) beta-alpha
 
-backGamma-alpha : Commute backGamma alpha
-backGamma-alpha = commute-back gamma backGamma gamma-step alpha (alpha-step .on) gamma-alpha
+backGamma-alpha : Commute Block backGamma alpha
+backGamma-alpha = commute-back gamma-undo alpha (alpha-undo .forth-keeps) gamma-alpha
 
-backGamma-beta : Commute backGamma beta
-backGamma-beta = commute-back gamma backGamma gamma-step beta (beta-step .on) gamma-beta
+backGamma-beta : Commute Block backGamma beta
+backGamma-beta = commute-back gamma-undo beta (beta-undo .forth-keeps) gamma-beta
 
 -- ---- the whole list
 
@@ -81,17 +84,17 @@ ahead : (k : ℕ) (l s : List ℕ) → Block s
     → jumped (net 1 l) (net 2 l) (net 3 l) (step k s) ≡ jumped (net 1 (k ∷ l)) (net 2 (k ∷ l)) (net 3 (k ∷ l)) s
 unfolding step net count
 ahead zero l s b = refl
-ahead (suc zero) l s b = first _ _ _ s b alpha _ (taken-more alpha backAlpha alpha-step (count 1 l) (count 4 l) s b)
-ahead (suc (suc zero)) l s b = second _ _ _ s b beta _ (beta-step .on) beta-alpha (taken-more beta backBeta beta-step (count 2 l) (count 5 l))
-ahead (suc (suc (suc zero))) l s b = third _ _ _ s b gamma _ (gamma-step .on) gamma-alpha gamma-beta (taken-more gamma backGamma gamma-step (count 3 l) (count 6 l))
-ahead (suc (suc (suc (suc zero)))) l s b = first _ _ _ s b backAlpha _ (taken-less alpha backAlpha alpha-step (count 1 l) (count 4 l) s b)
-ahead (suc (suc (suc (suc (suc zero))))) l s b = second _ _ _ s b backBeta _ (beta-step .off) backBeta-alpha (taken-less beta backBeta beta-step (count 2 l) (count 5 l))
+ahead (suc zero) l s b = first _ _ _ s b alpha _ (taken-more alpha-undo (count 1 l) (count 4 l) s b)
+ahead (suc (suc zero)) l s b = second _ _ _ s b beta _ (beta-undo .forth-keeps) beta-alpha (taken-more beta-undo (count 2 l) (count 5 l))
+ahead (suc (suc (suc zero))) l s b = third _ _ _ s b gamma _ (gamma-undo .forth-keeps) gamma-alpha gamma-beta (taken-more gamma-undo (count 3 l) (count 6 l))
+ahead (suc (suc (suc (suc zero)))) l s b = first _ _ _ s b backAlpha _ (taken-less alpha-undo (count 1 l) (count 4 l) s b)
+ahead (suc (suc (suc (suc (suc zero))))) l s b = second _ _ _ s b backBeta _ (beta-undo .back-keeps) backBeta-alpha (taken-less beta-undo (count 2 l) (count 5 l))
 ahead (suc (suc (suc (suc (suc (suc zero)))))) l s b =
-    third _ _ _ s b backGamma _ (gamma-step .off) backGamma-alpha backGamma-beta (taken-less gamma backGamma gamma-step (count 3 l) (count 6 l))
+    third _ _ _ s b backGamma _ (gamma-undo .back-keeps) backGamma-alpha backGamma-beta (taken-less gamma-undo (count 3 l) (count 6 l))
 ahead (suc (suc (suc (suc (suc (suc (suc k))))))) l s b = stays (suc (suc (suc (suc (suc (suc (suc k))))))) (omega arith) l s
 
 stay : Step (λ s. s) (λ s. s)
-stay = record { on = λ s b. b; off = λ s b. b; undo = λ s b. refl; redo = λ s b. refl; linear = λ s t b d. refl }
+stay = record { undo = undo-same; linear = λ s t b d. refl }
 
 -- a step and its way back; a byte that is no step is its own
 pub moves : (k : ℕ) → (back : List ℕ → List ℕ) × Step (step k) back
@@ -100,15 +103,13 @@ moves zero = (_, stay)
 moves (suc zero) = (backAlpha, alpha-step)
 moves (suc (suc zero)) = (backBeta, beta-step)
 moves (suc (suc (suc zero))) = (backGamma, gamma-step)
-moves (suc (suc (suc (suc zero)))) = (alpha, back-step alpha backAlpha alpha-step)
-moves (suc (suc (suc (suc (suc zero))))) = (beta, back-step beta backBeta beta-step)
-moves (suc (suc (suc (suc (suc (suc zero)))))) = (gamma, back-step gamma backGamma gamma-step)
+moves (suc (suc (suc (suc zero)))) = (alpha, back-step alpha-step)
+moves (suc (suc (suc (suc (suc zero))))) = (beta, back-step beta-step)
+moves (suc (suc (suc (suc (suc (suc zero)))))) = (gamma, back-step gamma-step)
 moves (suc (suc (suc (suc (suc (suc (suc k))))))) = (_, stay)
 
-pub walked-keeps : (l : List ℕ) → Keeps (walked l)
-unfolding walked
-walked-keeps [] s b = b
-walked-keeps (k ∷ l) s b = walked-keeps l (step k s) (moves k .1 .on s b)
+step-keeps : (k : ℕ) → Keeps Block (step k)
+step-keeps k = moves k .1 .undo .forth-keeps
 
 nowhere : (s : List ℕ) → s ≡ jumped (net 1 []) (net 2 []) (net 3 []) s
 unfolding jumped taken net count times
@@ -117,7 +118,7 @@ nowhere s = refl
 pub leads : (l s : List ℕ) → Block s → walked l s ≡ jumped (net 1 l) (net 2 l) (net 3 l) s
 unfolding walked
 leads [] s b = nowhere s
-leads (k ∷ l) s b = leads l (step k s) (moves k .1 .on s b) ∙ ahead k l s b
+leads (k ∷ l) s b = leads l (step k s) (step-keeps k s b) ∙ ahead k l s b
 
 -- a list keeps exclusive or
 pub walked-linear : (l s t : List ℕ) → Block s → Block t → walked l (xorBlock s t) ≡ xorBlock (walked l s) (walked l t)
@@ -125,4 +126,4 @@ unfolding walked
 walked-linear [] s t b d = refl
 walked-linear (k ∷ l) s t b d =
     ap (walked l) (moves k .1 .linear s t b d)
-    ∙ walked-linear l (step k s) (step k t) (moves k .1 .on s b) (moves k .1 .on t d)
+    ∙ walked-linear l (step k s) (step k t) (step-keeps k s b) (step-keeps k t d)

@@ -6,63 +6,60 @@ use Prim.Native.Nat.{ℕ, _+_, _-_, _≤_}
 use lib.ListN.{length, drop}
 use Rattle.words.specs.Sequence.{zeros}
 use Rattle.words.specs.Block.{Bytes}
-use Rattle.answers.specs.declared.Answer.the-variants.{Done, TagDiffers}
-use Rattle.sealing.specs.Sealing.{sealCall, openCall}
-
--- settings that no ground refuses
-pub record Settings (mode rounds : ℕ) (key nonce header : List ℕ) : Type 0 where
-  pub mode-is : (mode ≡ 1) ⊎ (mode ≡ 2)
-  pub rounds-are : (rounds ≡ 4) ⊎ (rounds ≡ 6)
-  pub key-long : length key ≡ 32
-  pub nonce-long : length nonce ≡ 16
-  pub header-short : length header ≤ 4096
-  pub key-bytes : Bytes key
-  pub nonce-bytes : Bytes nonce
-  pub header-bytes : Bytes header
-
--- a message of 0 to 65,536 bytes
-pub record Message (message : List ℕ) : Type 0 where
-  pub short : length message ≤ 65536
-  pub bytes : Bytes message
-
--- a parcel of 32 to 65,568 bytes
-pub record Parcel (parcel : List ℕ) : Type 0 where
-  pub least : 32 ≤ length parcel
-  pub most : length parcel ≤ 65568
-  pub bytes : Bytes parcel
+use Rattle.answers.specs.declared.Ground.the-variants.{TagDiffers}
+use Rattle.answers.specs.declared.Check.the-variants.{Clear}
+use Rattle.answers.specs.declared.Answer.the-variants.{Done, Refused}
+use Rattle.checks.specs.Checks.{sealInputs, openInputs}
+use Rattle.sealing.specs.Sealing.{sealFrom, openFrom}
 
 module _ (mode rounds : ℕ) (key nonce header : List ℕ) where
-  -- seal writes that parcel for that message, into every output that has room for it
-  abbrev pub Seals : List ℕ → List ℕ → Type 0
-  Seals message parcel =
-      (out : List ℕ) → length message + 32 ≤ length out
-      → sealCall mode rounds key nonce header message out ≡ (Done (length message + 32), parcel ++ drop (length message + 32) out)
+  -- settings and a message that seal refuses on no ground, given room
+  pub record Message (message : List ℕ) : Type 0 where
+    pub clear : sealInputs mode rounds (length key) (length nonce) (length header) (length message) Clear ≡ Clear
+    pub key-bytes : Bytes key
+    pub nonce-bytes : Bytes nonce
+    pub bytes : Bytes message
 
-  -- open writes that message for that parcel, into every output that has room for it
-  abbrev pub Opens : List ℕ → List ℕ → Type 0
-  Opens parcel message =
-      (out : List ℕ) → length message ≤ length out
-      → openCall mode rounds key nonce header parcel out ≡ (Done (length message), message ++ drop (length message) out)
+  -- settings and a parcel that open refuses on no ground but 9, given room
+  pub record Parcel (parcel : List ℕ) : Type 0 where
+    pub clear : openInputs mode rounds (length key) (length nonce) (length header) (length parcel) Clear ≡ Clear
+    pub key-bytes : Bytes key
+    pub nonce-bytes : Bytes nonce
+    pub bytes : Bytes parcel
 
-  -- open refuses that parcel with 9, and leaves zeros where a message would have stood
-  abbrev pub Refuses : List ℕ → Type 0
-  Refuses parcel =
-      (out : List ℕ) → length parcel - 32 ≤ length out
-      → openCall mode rounds key nonce header parcel out ≡ (TagDiffers, zeros (length parcel - 32) ++ drop (length parcel - 32) out)
+  module _ (start : ℕ → List ℕ → List ℕ → List ℕ) where
+    -- seal writes that parcel for that message, into every output that has room for it
+    abbrev pub Seals : List ℕ → List ℕ → Type 0
+    Seals message parcel =
+        (out : List ℕ) → length message + 32 ≤ length out
+        → sealFrom start mode rounds key nonce header message out ≡ (Done (length message + 32), parcel ++ drop (length message + 32) out)
 
--- demand 2
-pub record Demand2 : Type 0 where
-  -- open of what seal writes hands back that message
-  pub hands-back : (mode rounds : ℕ) (key nonce header message : List ℕ) → Settings mode rounds key nonce header → Message message
-      → (parcel : List ℕ)
-      × Parcel parcel
-      × Seals mode rounds key nonce header message parcel
-      × Opens mode rounds key nonce header parcel message
-  -- open succeeds exactly where the parcel is what seal writes for some message, the message that open writes; every other is refused with 9
-  pub exactly : (mode rounds : ℕ) (key nonce header parcel : List ℕ) → Settings mode rounds key nonce header → Parcel parcel
-      → ((message : List ℕ)
-      × Message message
-      × Seals mode rounds key nonce header message parcel
-      × Opens mode rounds key nonce header parcel message)
-      ⊎ (((message : List ℕ) → Message message → Seals mode rounds key nonce header message parcel → ⊥)
-      × Refuses mode rounds key nonce header parcel)
+    -- open writes that message for that parcel, into every output that has room for it
+    abbrev pub Opens : List ℕ → List ℕ → Type 0
+    Opens parcel message =
+        (out : List ℕ) → length message ≤ length out
+        → openFrom start mode rounds key nonce header parcel out ≡ (Done (length message), message ++ drop (length message) out)
+
+    -- open refuses that parcel with 9, and leaves zeros where a message would have stood
+    abbrev pub Refuses : List ℕ → Type 0
+    Refuses parcel =
+        (out : List ℕ) → length parcel - 32 ≤ length out
+        → openFrom start mode rounds key nonce header parcel out
+        ≡ (Refused TagDiffers 0, zeros (length parcel - 32) ++ drop (length parcel - 32) out)
+
+    -- open of what seal writes hands back that message
+    abbrev pub HandsBack : List ℕ → Type 0
+    HandsBack message = (parcel : List ℕ) × Parcel parcel × Seals message parcel × Opens parcel message
+
+    -- open succeeds exactly where the parcel is what seal writes for some message, the message that open writes; every other is refused with 9
+    abbrev pub Exactly : List ℕ → Type 0
+    Exactly parcel =
+        ((message : List ℕ) × Message message × Seals message parcel × Opens parcel message)
+        ⊎ (((message : List ℕ) → Message message → Seals message parcel → ⊥) × Refuses parcel)
+
+-- demand 2, of seal and open under a start; `Demand2 startOf` is that of the calls
+pub record Demand2 (start : ℕ → List ℕ → List ℕ → List ℕ) : Type 0 where
+  pub hands-back : (mode rounds : ℕ) (key nonce header message : List ℕ) → Message mode rounds key nonce header message
+      → HandsBack mode rounds key nonce header start message
+  pub exactly : (mode rounds : ℕ) (key nonce header parcel : List ℕ) → Parcel mode rounds key nonce header parcel
+      → Exactly mode rounds key nonce header start parcel

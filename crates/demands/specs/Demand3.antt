@@ -3,13 +3,13 @@ use mathlib.Core.Path.{_≡_}
 use mathlib.Core.Bool.{cond}
 use mathlib.Core.List.{List, [], _∷_, _++_}
 use Prim.Native.Nat.{ℕ, suc, _+_, _≤_, _<_}
-use lib.Dec.{eqb, ltb}
+use lib.Dec.{eqb}
 use lib.IntN.{ℤ, pos, _-ℤ_}
 use lib.ListN.{length, getD, drop}
 use Rattle.words.specs.Sequence.{zeros}
 use Rattle.words.specs.Block.{Bytes, xorBytes}
-use Rattle.answers.specs.Answers.{refuse}
-use Rattle.answers.specs.declared.Answer.the-variants.{Done, OutputLength}
+use Rattle.answers.specs.Answers.{room, checked}
+use Rattle.answers.specs.declared.Answer.the-variants.{Done}
 use Rattle.walking.specs.Walking.{walkCall, jumpCall}
 
 -- a 128-byte start or block
@@ -43,11 +43,11 @@ pub record Demand3 : Type 0 where
       → walkCall start steps out ≡ jumpCall start (net 1 steps) (net 2 steps) (net 3 steps) out
   -- it can be refused with 7 alone, and then changes no byte; else it writes the mask and leaves the rest
   pub only-seven : (start steps out : List ℕ) → Start start → Steps steps
-      → walkCall start steps out ≡ refuse (ltb (length out) 128) OutputLength out (Done 128, mask start steps ++ drop 128 out)
+      → walkCall start steps out ≡ checked (room 128 (length out)) out (Done 128, mask start steps ++ drop 128 out)
   -- and so can the jump by the list's net counts
   pub jump-only-seven : (start steps out : List ℕ) → Start start → Steps steps
       → jumpCall start (net 1 steps) (net 2 steps) (net 3 steps) out
-      ≡ refuse (ltb (length out) 128) OutputLength out (Done 128, mask start steps ++ drop 128 out)
+      ≡ checked (room 128 (length out)) out (Done 128, mask start steps ++ drop 128 out)
   -- so two lists with the same net counts end alike
   pub same-nets : (start l m out : List ℕ) → Start start → Steps l → Steps m
       → net 1 l ≡ net 1 m → net 2 l ≡ net 2 m → net 3 l ≡ net 3 m → walkCall start l out ≡ walkCall start m out

@@ -1,6 +1,5 @@
 -- The bench sheet's cases that are proved, P1 to P11, as rows of one table (document 01, "Bench sheet"). Assumes nothing.
 use mathlib.Core.Path.{_≡_}
-use mathlib.Core.Bool.{Bool, true, _&&_}
 use mathlib.Core.List.{List, [], _∷_, _++_}
 use Prim.Native.Nat.{ℕ, suc, _<_}
 use lib.ListN.{length, getD, set}
@@ -10,9 +9,9 @@ use Rattle.permutation.specs.Permutation.{gOf, round}
 use Rattle.masks.specs.Steps.{alpha, beta, gamma}
 use Rattle.back_steps.specs.BackSteps.{backAlpha}
 use Rattle.mem.specs.Mem.{startOf}
-use Rattle.blockplan.specs.Plan.{same}
+use Rattle.blockplan.specs.Parcel.{parcelOf}
 use Rattle.opp.specs.Opp.{padded}
-use Rattle.sealing.specs.Sealing.{parcelOf}
+use Rattle.modes.specs.Modes.{modeOf}
 
 -- a case: what the definitions give, and what the sheet says
 pub record Row : Type 0 where
@@ -35,7 +34,7 @@ full = tab (λ i. suc i) 127
 
 -- the parcel of a message with zero key and nonce and an empty header
 unfoldable pub sealed : ℕ → ℕ → List ℕ → List ℕ
-sealed mode rounds message = parcelOf mode rounds (startOf rounds (zeros 32) (zeros 16)) [] message
+sealed mode rounds message = parcelOf (modeOf mode rounds (startOf rounds (zeros 32) (zeros 16))) [] message
 
 -- the lines P1 to P11, and maskwalk's example with "g"
 unfoldable pub table : List Row
@@ -58,11 +57,10 @@ table =
     ∷ record { got = gamma (word 0 1); want = set (set (word 0 1) 14 0x0020000000000000) 15 0x0020000000000000 }  -- maskwalk's example
     ∷ []
 
--- the test that is computed over the whole table
-unfoldable pub right : List Row → Bool
-right [] = true
-right (row ∷ rows) = same (row .got) (row .want) && right rows
+-- row i of the table
+unfoldable pub rowAt : ℕ → Row
+rowAt i = getD table i (record { got = []; want = [] })
 
 -- each row of the table holds: what the definitions give is what the bench sheet has
 pub record KnownAnswers : Type 0 where
-  pub row : (i : ℕ) → i < length table → getD table i (record { got = []; want = [] }) .got ≡ getD table i (record { got = []; want = [] }) .want
+  pub row : (i : ℕ) → i < length table → rowAt i .got ≡ rowAt i .want

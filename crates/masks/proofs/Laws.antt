@@ -1,50 +1,29 @@
 -- The laws of the mask steps: each keeps blocks and exclusive or, and any two commute. Assumes nothing.
-use mathlib.Core.Path.{_≡_, refl, sym, ap, ap₂, _∙_, subst}
+use mathlib.Core.Path.{_≡_, refl, sym, ap, ap₂, _∙_}
 use mathlib.Core.List.{List, [], _∷_}
 use Prim.Native.Nat.{ℕ, suc, _-_, _^_, _<_}
 use native.Mathlib.Omega.{arith}
 use native.Mathlib.Decide.{decLt}
 use lib.Dec.{lit<}
-use lib.ListN.{length, getD, drop, length-append, length-drop, List·getD-append, List·getD-eq-default}
-use lib.Seq.{getD-at, getD-drop, ext-getD}
-use lib.Pow.{pow-pos}
+use lib.ListN.{length, getD, drop, length-append, length-drop, List·getD-append}
+use lib.Seq.{getD-at, getD-drop}
 use lib.Bits.{bitXor}
 use Rattle.words.specs.Word.{rotL, shl}
 use Rattle.words.specs.Block.{Block, xorBlock}
-use Rattle.words.proofs.Words.{rotR-lt, shl-lt, rotR-xor, shl-xor}
-use Rattle.words.proofs.Blocks.{xor-block, getD-xor, xorBlock-swap}
+use Rattle.words.proofs.Maps.{Keeps, Commute, turn}
+use Rattle.words.proofs.Linear.{OnPair, pair-xor, word-rotL, word-shl}
+use Rattle.words.proofs.Blocks.{block-of, block-ext, xor-block, getD-xor, xorBlock-swap}
 use Rattle.masks.specs.Steps.{alpha, alphaW, beta, gamma}
-use Rattle.masks.proofs.Linear.{OnWord, OnPair, pair-xor}
 
--- ---- words
-
-pub word-rotL : OnWord (rotL 53)
-unfolding rotL
-word-rotL = record { fits = rotR-lt 11 53 refl; keeps = rotR-xor 11 53 refl }
-
-pub word-shl : OnWord (shl 13)
-word-shl = record { fits = λ x h. shl-lt 13 x; keeps = λ x y hx hy. shl-xor 13 x y }
-
--- two blocks are equal when their words are
-pub block-ext : (s t : List ℕ) → Block s → Block t → ((i : ℕ) → i < 16 → getD s i 0 ≡ getD t i 0) → s ≡ t
-block-ext s t hs ht h =
-    ext-getD 0 s t (hs .long ∙ sym (ht .long)) (λ i p. h i (subst (λ (k : ℕ). i < k) (hs .long) p))
-
--- a list of sixteen is a block when each of its words fits
-pub block-of : (s : List ℕ) → length s ≡ 16 → ((i : ℕ) → i < 16 → getD s i 0 < 2 ^ 64) → Block s
-block-of s e h = record {
-  long = e;
-  words = λ i. elim (decLt i 16) [
-    | yes p ↦ h i p
-    | no q ↦ rw (List·getD-eq-default s 0 {n = i} (omega arith)) (pow-pos 64)
-  ];
-}
+-- f keeps exclusive or of blocks
+abbrev pub Linear : (List ℕ → List ℕ) → Type 0
+Linear f = (s t : List ℕ) → Block s → Block t → f (xorBlock s t) ≡ xorBlock (f s) (f t)
 
 -- ---- one step of alpha
 
 pub pair-alphaW : OnPair alphaW
 unfolding alphaW
-pair-alphaW = pair-xor (rotL 53) (shl 13) word-rotL word-shl
+pair-alphaW = pair-xor (rotL 53) (shl 13) (word-rotL 53 (lit< tt)) (word-shl 13)
 
 module _ (s : List ℕ) (b : Block s) where
   fifteen : length (drop 1 s) ≡ 15
@@ -72,8 +51,7 @@ module _ (s : List ℕ) (b : Block s) where
         | no q ↦ let e : i ≡ 15 = omega arith in rw (e, alpha-new) (pair-alphaW .fits (getD s 0 0) (getD s 5 0) (b .words 0) (b .words 5))
       ]
 
--- alpha keeps exclusive or
-pub alpha-linear : (s t : List ℕ) → Block s → Block t → alpha (xorBlock s t) ≡ xorBlock (alpha s) (alpha t)
+pub alpha-linear : Linear alpha
 alpha-linear s t hs ht =
     let ha = alpha-block s hs in
     let hb = alpha-block t ht in
@@ -93,11 +71,11 @@ alpha-linear s t hs ht =
           ∙ sym (ap₂ bitXor (alpha-new s hs) (alpha-new t ht)))
     ]
 
-pub beta-block : (s : List ℕ) → Block s → Block (beta s)
+pub beta-block : Keeps Block beta
 unfolding beta
 beta-block s b = xor-block (alpha s) s (alpha-block s b) b
 
-pub gamma-block : (s : List ℕ) → Block s → Block (gamma s)
+pub gamma-block : Keeps Block gamma
 unfolding gamma
 gamma-block s b =
     let ha = alpha-block s b in
@@ -105,11 +83,11 @@ gamma-block s b =
 
 -- ---- steps keep exclusive or
 
-pub beta-linear : (s t : List ℕ) → Block s → Block t → beta (xorBlock s t) ≡ xorBlock (beta s) (beta t)
+pub beta-linear : Linear beta
 unfolding beta
 beta-linear s t hs ht = ap (λ (a : List ℕ). xorBlock a (xorBlock s t)) (alpha-linear s t hs ht) ∙ xorBlock-swap (alpha s) (alpha t) s t
 
-pub gamma-linear : (s t : List ℕ) → Block s → Block t → gamma (xorBlock s t) ≡ xorBlock (gamma s) (gamma t)
+pub gamma-linear : Linear gamma
 unfolding gamma
 gamma-linear s t hs ht =
     let once = alpha-linear s t hs ht in
@@ -121,14 +99,13 @@ gamma-linear s t hs ht =
 -- ---- steps commute
 
 -- a linear map that commutes with alpha commutes with beta and gamma
-module _ (f : List ℕ → List ℕ) (linear : (s t : List ℕ) → Block s → Block t → f (xorBlock s t) ≡ xorBlock (f s) (f t))
-    (with-alpha : (s : List ℕ) → Block s → f (alpha s) ≡ alpha (f s)) where
-  with-beta : (s : List ℕ) → Block s → f (beta s) ≡ beta (f s)
+module _ (f : List ℕ → List ℕ) (linear : Linear f) (with-alpha : Commute Block f alpha) where
+  with-beta : Commute Block f beta
   unfolding beta
   with-beta s h =
       linear (alpha s) s (alpha-block s h) h ∙ ap (λ (a : List ℕ). xorBlock a (f s)) (with-alpha s h)
 
-  with-gamma : (s : List ℕ) → Block s → f (gamma s) ≡ gamma (f s)
+  with-gamma : Commute Block f gamma
   unfolding gamma
   with-gamma s h =
       let ha = alpha-block s h in
@@ -137,11 +114,11 @@ module _ (f : List ℕ → List ℕ) (linear : (s t : List ℕ) → Block s → 
       ∙ ap (λ (a : List ℕ). xorBlock a (f s))
       (linear (alpha (alpha s)) (alpha s) haa ha ∙ ap₂ xorBlock (with-alpha (alpha s) ha ∙ ap alpha (with-alpha s h)) (with-alpha s h))
 
-pub alpha-beta : (s : List ℕ) → Block s → alpha (beta s) ≡ beta (alpha s)
+pub alpha-beta : Commute Block alpha beta
 alpha-beta = with-beta alpha alpha-linear (λ s h. refl)
 
-pub alpha-gamma : (s : List ℕ) → Block s → alpha (gamma s) ≡ gamma (alpha s)
+pub alpha-gamma : Commute Block alpha gamma
 alpha-gamma = with-gamma alpha alpha-linear (λ s h. refl)
 
-pub beta-gamma : (s : List ℕ) → Block s → beta (gamma s) ≡ gamma (beta s)
-beta-gamma = with-gamma beta beta-linear (λ s h. sym (alpha-beta s h))
+pub beta-gamma : Commute Block beta gamma
+beta-gamma = with-gamma beta beta-linear (turn alpha beta alpha-beta)

@@ -1,3 +1,2 @@
-pub mod Arrays
-pub mod Linear
 pub mod Laws
+pub mod Run

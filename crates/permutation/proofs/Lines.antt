@@ -1,16 +1,15 @@
 -- The lines of G on four words: words stay words, and back lines undo them. Assumes nothing.
 use mathlib.Core.Path.{_≡_, ap, _∙_}
-use Prim.Native.Nat.{ℕ, _+_, _-_, _^_, _<_}
-use native.Mathlib.Nat.{mod-lt}
+use Prim.Native.Nat.{ℕ, _-_, _^_, _<_}
 use native.Mathlib.Omega.{arith}
 use lib.Dec.{lit<}
 use lib.Bits.{bitXor, xor-lt}
 use Rattle.words.specs.Word.{addW, subW, rotR, rotL}
-use Rattle.words.proofs.Xor.{xor-cancel-r}
-use Rattle.words.proofs.Words.{rotR-lt, rotR-back}
-use Rattle.permutation.specs.Permutation.{Quad, half, backHalf, gOf, backGOf}
 use Rattle.words.specs.Undo.{Undo}
+use Rattle.words.proofs.Xor.{xor-cancel-r}
+use Rattle.words.proofs.Words.{addW-lt, subW-lt, subW-addW, addW-subW, rotR-lt, rotR-back}
 use Rattle.words.proofs.Maps.{undo-then}
+use Rattle.permutation.specs.Permutation.{Quad, half, backHalf, gOf, backGOf}
 
 -- four words of 64 bits
 pub record Words (q : Quad) : Type 0 where
@@ -20,22 +19,6 @@ pub record Words (q : Quad) : Type 0 where
   pub d : q .d < 2 ^ 64
 
 -- ---- one line
-
-pub addW-lt : (x y : ℕ) → addW x y < 2 ^ 64
-unfolding addW
-addW-lt x y = mod-lt (x + y) (lit< tt)
-
-pub subW-lt : (x y : ℕ) → subW x y < 2 ^ 64
-unfolding subW
-subW-lt x y = mod-lt (x + (2 ^ 64 - y)) (lit< tt)
-
-pub subW-addW : (x y : ℕ) → x < 2 ^ 64 → y < 2 ^ 64 → subW (addW x y) y ≡ x
-unfolding addW subW
-subW-addW x y hx hy = omega arith
-
-pub addW-subW : (x y : ℕ) → x < 2 ^ 64 → y < 2 ^ 64 → addW (subW x y) y ≡ x
-unfolding addW subW
-addW-subW x y hx hy = omega arith
 
 -- a rotation by n of an exclusive or, and its way back
 module _ (n : ℕ) (n-lt : n < 64) where

@@ -1,15 +1,16 @@
 -- A step on four words, taken at four places of a block. Assumes nothing.
 use mathlib.Core.Path.{_≡_, sym, ap, _∙_}
 use mathlib.Core.Logic.{_≢_}
-use mathlib.Core.List.{List, [], _∷_}
-use Prim.Native.Nat.{ℕ, zero, suc, _^_, _<_}
+use mathlib.Core.List.{List}
+use Prim.Native.Nat.{ℕ, _<_}
 use native.Mathlib.Omega.{arith}
-use lib.Dec.{lit<}
 use lib.ListN.{length, getD, set, length-set}
 use lib.Seq.{getD-set-same, getD-set-other, set-getD, set-set, set-comm}
 use Rattle.words.specs.Block.{Block}
-use Rattle.permutation.specs.Permutation.{Quad, pick, put, stepAt}
 use Rattle.words.specs.Undo.{Undo}
+use Rattle.words.proofs.Blocks.{set-block}
+use Rattle.words.proofs.Maps.{Keeps}
+use Rattle.permutation.specs.Permutation.{Quad, pick, put, stepAt}
 use Rattle.permutation.proofs.Lines.{Words, quad}
 
 -- four places of a block, no two of them the same
@@ -76,16 +77,6 @@ put-pick row s = rw (set-getD, set-getD, set-getD, set-getD)
 
 -- ---- blocks stay blocks
 
-set-below : (s : List ℕ) (i v : ℕ) → ((k : ℕ) → getD s k 0 < 2 ^ 64) → v < 2 ^ 64 → (k : ℕ) → getD (set s i v) k 0 < 2 ^ 64
-set-below [] i v hs hv k = lit< tt
-set-below (x ∷ xs) zero v hs hv zero = hv
-set-below (x ∷ xs) zero v hs hv (suc k) = hs (suc k)
-set-below (x ∷ xs) (suc i) v hs hv zero = hs zero
-set-below (x ∷ xs) (suc i) v hs hv (suc k) = set-below xs i v (λ j. hs (suc j)) hv k
-
-pub set-block : (s : List ℕ) (i v : ℕ) → Block s → v < 2 ^ 64 → Block (set s i v)
-set-block s i v b hv = record { long = length-set s i v ∙ b .long; words = set-below s i v (b .words) hv }
-
 pub put-block : (row : List ℕ) (q : Quad) (s : List ℕ) → Words q → Block s → Block (put row q s)
 unfolding put
 put-block row q s w b = set-block _ _ _ (set-block _ _ _ (set-block _ _ _ (set-block _ _ _ b (w .a)) (w .b)) (w .c)) (w .d)
@@ -96,7 +87,7 @@ pick-words row s b = record { a = b .words _; b = b .words _; c = b .words _; d 
 
 -- ---- a step at a row
 
-keeps : (f : Quad → Quad) → ((q : Quad) → Words q → Words (f q)) → (row s : List ℕ) → Block s → Block (stepAt f row s)
+keeps : (f : Quad → Quad) → Keeps Words f → (row : List ℕ) → Keeps Block (stepAt f row)
 unfolding stepAt
 keeps f k row s b = put-block row (f (pick row s)) s (k (pick row s) (pick-words row s b)) b
 

@@ -1,6 +1,6 @@
 // P with a count of rounds, and the back permutation.
-use crate::round::round;
 use crate::round::back_round;
+use crate::round::round;
 ghost use mathlib.Core.Path.{_≡_};
 ghost use Rattle.permutation.specs.Permutation.{perm, backPerm};
 

@@ -1,6 +1,6 @@
 // A round, and a round undone.
-use crate::g::g;
 use crate::g::back_g;
+use crate::g::g;
 ghost use mathlib.Core.Path.{_≡_};
 ghost use mathlib.Core.List.{[]};
 ghost use Prim.Native.Nat.{_<_};

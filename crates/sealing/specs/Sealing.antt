@@ -2,63 +2,40 @@
 use mathlib.Core.Bool.{Bool, cond}
 use mathlib.Core.List.{List, _++_}
 use Prim.Native.Nat.{ℕ, _+_, _-_}
-use lib.Dec.{eqb, ltb}
 use lib.ListN.{length, drop}
-use Rattle.mem.specs.Mem.{startOf}
-use Rattle.blockplan.specs.Plan.{opened, cipherPart, tagPart}
-use Rattle.settings.specs.Settings.{settings, isRefusal}
-use Rattle.opp.specs.Opp.{oppTag, oppCipher, oppPlain}
-use Rattle.mro.specs.Mro.{mroTag, mroCipher}
-use Rattle.answers.specs.Answers.{refuse}
+use Rattle.answers.specs.Answers.{checked}
+use Rattle.answers.specs.declared.Ground.the-variants.{TagDiffers}
 use Rattle.answers.specs.declared.Answer.{Answer}
-use Rattle.answers.specs.declared.Answer.the-variants.{Done, InputLength, OutputLength, TagMissing, TagDiffers}
+use Rattle.answers.specs.declared.Answer.the-variants.{Done, Refused}
+use Rattle.mem.specs.Mem.{startOf}
+use Rattle.blockplan.specs.Parcel.{parcelOf, opened}
+use Rattle.checks.specs.Checks.{sealChecks, openChecks}
+use Rattle.modes.specs.Modes.{modeOf}
 
--- ---- a mode's tag, ciphertext and message, over a round count and a start block; mode 1 is OPP, 2 is MRO
-
--- the tag ("OPP" and "MRO" of document 01)
-unfoldable pub tagOf : ℕ → ℕ → List ℕ → List ℕ → List ℕ → List ℕ
-tagOf mode rounds start header message = cond (eqb mode 1) (oppTag rounds start header message) (mroTag rounds start header message)
-
--- the ciphertext; MRO's comes from the tag
-unfoldable pub cipherOf : ℕ → ℕ → List ℕ → List ℕ → List ℕ → List ℕ
-cipherOf mode rounds start tag message = cond (eqb mode 1) (oppCipher rounds start message) (mroCipher rounds start tag message)
-
--- the message of a ciphertext; MRO's stream is its own way back
-unfoldable pub plainOf : ℕ → ℕ → List ℕ → List ℕ → List ℕ → List ℕ
-plainOf mode rounds start tag cipher = cond (eqb mode 1) (oppPlain rounds start cipher) (mroCipher rounds start tag cipher)
-
--- a parcel is the ciphertext, as long as the message, and then the tag
-unfoldable pub parcelOf : ℕ → ℕ → List ℕ → List ℕ → List ℕ → List ℕ
-parcelOf mode rounds start header message =
-    cipherOf mode rounds start (tagOf mode rounds start header message) message ++ tagOf mode rounds start header message
-
--- the message that a parcel holds if its tag is right
-unfoldable pub messageOf : ℕ → ℕ → List ℕ → List ℕ → List ℕ
-messageOf mode rounds start parcel = plainOf mode rounds start (tagPart parcel) (cipherPart parcel)
-
--- ---- the calls
-
--- what seal answers and leaves in the output: the shared checks, 6, 7, then the parcel; output beyond it is unchanged
-unfoldable pub sealCall : ℕ → ℕ → List ℕ → List ℕ → List ℕ → List ℕ → List ℕ → Answer × List ℕ
-sealCall mode rounds key nonce header message out =
-    refuse (isRefusal (settings mode rounds key nonce header)) (settings mode rounds key nonce header) out
-    (refuse (ltb 65536 (length message)) InputLength out
-    (refuse (ltb (length out) (length message + 32)) OutputLength out (
-      Done (length message + 32),
-      parcelOf mode rounds (startOf rounds key nonce) header message ++ drop (length message + 32) out,
-    )))
-
--- success where the tag is right, refusal 9 where a byte of it differs
+-- success where the parcel is genuine, refusal 9 where a byte of its tag differs
 unfoldable pub verdict : ℕ → Bool × List ℕ → Answer × List ℕ
-verdict n r = (cond (r .0) (Done n) TagDiffers, r .1)
+verdict n r = (cond (r .0) (Done n) (Refused TagDiffers 0), r .1)
 
--- what open answers and leaves in the output: the shared checks, 8, 6, 7, then the message, or 9 and zeros in its place
+-- the calls, for a start that is made of the round count, the key and the nonce
+module _ (start : ℕ → List ℕ → List ℕ → List ℕ) (mode rounds : ℕ) (key nonce header : List ℕ) where
+  -- what seal answers and leaves in the output: its checks, then the parcel; output beyond it is unchanged
+  unfoldable pub sealFrom : List ℕ → List ℕ → Answer × List ℕ
+  sealFrom message out =
+      checked (sealChecks mode rounds (length key) (length nonce) (length header) (length message) (length out)) out (
+        Done (length message + 32),
+        parcelOf (modeOf mode rounds (start rounds key nonce)) header message ++ drop (length message + 32) out,
+      )
+
+  -- what open answers and leaves in the output: its checks, then the message, or 9 and zeros in its place; output beyond it is unchanged
+  unfoldable pub openFrom : List ℕ → List ℕ → Answer × List ℕ
+  openFrom parcel out =
+      checked (openChecks mode rounds (length key) (length nonce) (length header) (length parcel) (length out)) out
+      (verdict (length parcel - 32) (opened (modeOf mode rounds (start rounds key nonce)) header parcel out))
+
+-- seal, under the start of section 4
+unfoldable pub sealCall : ℕ → ℕ → List ℕ → List ℕ → List ℕ → List ℕ → List ℕ → Answer × List ℕ
+sealCall = sealFrom startOf
+
+-- open, under the same start
 unfoldable pub openCall : ℕ → ℕ → List ℕ → List ℕ → List ℕ → List ℕ → List ℕ → Answer × List ℕ
-openCall mode rounds key nonce header parcel out =
-    refuse (isRefusal (settings mode rounds key nonce header)) (settings mode rounds key nonce header) out
-    (refuse (ltb (length parcel) 32) TagMissing out
-    (refuse (ltb 65568 (length parcel)) InputLength out
-    (refuse (ltb (length out) (length parcel - 32)) OutputLength out
-    (let message = messageOf mode rounds (startOf rounds key nonce) parcel in
-    verdict (length parcel - 32)
-    (opened message (tagOf mode rounds (startOf rounds key nonce) header message) (tagPart parcel) out)))))
+openCall = openFrom startOf

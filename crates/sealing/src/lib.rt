@@ -1,19 +1,12 @@
 // Seal and open: the checks in document 01's order, then a mode over the start block.
-mod modes;
-
 use answers::Answer;
-use answers::number;
+use answers::Check;
+use answers::Ground;
+use checks::check_open;
+use checks::check_seal;
 use mem::start::start;
-use modes::open_under;
-use modes::seal_under;
-use settings::settings;
 ghost use mathlib.Core.Path.{_≡_};
 ghost use Rattle.sealing.specs.Sealing.{sealCall, openCall};
-
-// The longest message, and the length of a tag.
-const MOST_MESSAGE: usize = 65536;
-
-const TAG: usize = 32;
 
 // The parcel of a message.
 pub fn seal(
@@ -27,18 +20,20 @@ pub fn seal(
 ) -> Answer
     ensures { λ r. ⌜ (r, now (out .exit)) ≡ sealCall mode rounds (now (key .entry)) (now (nonce .entry)) (now (header .entry)) (now (message .entry)) (now (out .entry)) ⌝ }
 {
-    let ground = settings(mode, rounds, key, nonce, header);
-    if number(ground) != 0 {
-        return ground;
+    let n = message.len();
+    let found = check_seal(
+        mode,
+        rounds,
+        key.len(),
+        nonce.len(),
+        header.len(),
+        n,
+        out.len(),
+    );
+    if let Check::Fails(ground, place) = found {
+        return Answer::Refused(ground, place);
     }
-    if message.len() > MOST_MESSAGE {
-        return Answer::InputLength;
-    }
-    let written = message.len() + TAG;
-    if out.len() < written {
-        return Answer::OutputLength;
-    }
-    seal_under(
+    modes::seal(
         start(key, nonce, rounds),
         mode,
         rounds,
@@ -46,10 +41,10 @@ pub fn seal(
         message,
         out,
     );
-    Answer::Done(written)
+    Answer::Done((n + 32) as u64)
 }
 
-// The message of a parcel whose tag is right.
+// The message of a genuine parcel.
 pub fn open(
     mode: u32,
     rounds: u32,
@@ -61,23 +56,23 @@ pub fn open(
 ) -> Answer
     ensures { λ r. ⌜ (r, now (out .exit)) ≡ openCall mode rounds (now (key .entry)) (now (nonce .entry)) (now (header .entry)) (now (parcel .entry)) (now (out .entry)) ⌝ }
 {
-    let ground = settings(mode, rounds, key, nonce, header);
-    if number(ground) != 0 {
-        return ground;
+    let n = parcel.len();
+    let found = check_open(
+        mode,
+        rounds,
+        key.len(),
+        nonce.len(),
+        header.len(),
+        n,
+        out.len(),
+    );
+    if let Check::Fails(ground, place) = found {
+        return Answer::Refused(ground, place);
     }
-    if parcel.len() < TAG {
-        return Answer::TagMissing;
-    }
-    if parcel.len() > MOST_MESSAGE + TAG {
-        return Answer::InputLength;
-    }
-    let written = parcel.len() - TAG;
-    if out.len() < written {
-        return Answer::OutputLength;
-    }
-    if open_under(start(key, nonce, rounds), mode, rounds, header, parcel, out) {
-        Answer::Done(written)
+    let written = n - 32;
+    if modes::open(start(key, nonce, rounds), mode, rounds, header, parcel, out) {
+        Answer::Done(written as u64)
     } else {
-        Answer::TagDiffers
+        Answer::Refused(Ground::TagDiffers, 0)
     }
 }

@@ -9,9 +9,11 @@ use Rattle.words.specs.Sequence.{times}
 use Rattle.words.specs.Block.{blockOf, bytesOf}
 use Rattle.masks.specs.Steps.{alpha, beta, gamma}
 use Rattle.back_steps.specs.BackSteps.{backAlpha, backBeta, backGamma}
-use Rattle.answers.specs.Answers.{refuse}
+use Rattle.answers.specs.Answers.{lineAt, line, room, checked}
+use Rattle.answers.specs.declared.Check.{Check}
+use Rattle.answers.specs.declared.Ground.the-variants.{StartLength, NetCount, StepByte, ListLength}
 use Rattle.answers.specs.declared.Answer.{Answer}
-use Rattle.answers.specs.declared.Answer.the-variants.{Done, OutputLength, StartLength, NetCount, StepByte, ListLength}
+use Rattle.answers.specs.declared.Answer.the-variants.{Done}
 
 -- one step: 1, 2, 3 for alpha, beta, gamma; 4, 5, 6 for their back steps; any other byte, which walk refuses, leaves the block
 unfoldable pub step : ℕ → List ℕ → List ℕ
@@ -51,19 +53,27 @@ firstBad (k ∷ ks) = cond (isStep k) (suc (firstBad ks)) 0
 unfoldable pub inRange : ℤ → Bool
 inRange z = leb (natAbs z) 65536
 
--- what walk answers and leaves in the output: checks 10, 13, 12, 7, then the block reached; output beyond it is unchanged
+-- walk's checks, in the table's order: 10, 13, 12 at the first bad byte's place, 7
+unfoldable pub walkChecks : ℕ → List ℕ → ℕ → Check
+walkChecks start steps out =
+    line (not (eqb start 128)) StartLength
+    (line (ltb 4096 (length steps)) ListLength
+    (lineAt (ltb (firstBad steps) (length steps)) StepByte (firstBad steps)
+    (room 128 out)))
+
+-- jump's: 10, 11, 7
+unfoldable pub jumpChecks : ℕ → ℤ → ℤ → ℤ → ℕ → Check
+jumpChecks start i j k out =
+    line (not (eqb start 128)) StartLength
+    (line (not (inRange i && (inRange j && inRange k))) NetCount
+    (room 128 out))
+
+-- what walk answers and leaves in the output: where its checks are clear the block reached; output beyond it is unchanged
 unfoldable pub walkCall : List ℕ → List ℕ → List ℕ → Answer × List ℕ
 walkCall start steps out =
-    refuse (not (eqb (length start) 128)) StartLength out
-    (refuse (ltb 4096 (length steps)) ListLength out
-    (refuse (ltb (firstBad steps) (length steps)) (StepByte (firstBad steps)) out
-    (refuse (ltb (length out) 128) OutputLength out
-    (Done 128, bytesOf (walked steps (blockOf start)) ++ drop 128 out))))
+    checked (walkChecks (length start) steps (length out)) out (Done 128, bytesOf (walked steps (blockOf start)) ++ drop 128 out)
 
--- what jump answers and leaves in the output: checks 10, 11, 7, then the block reached; output beyond it is unchanged
+-- what jump answers and leaves in the output: where its checks are clear the block reached; output beyond it is unchanged
 unfoldable pub jumpCall : List ℕ → ℤ → ℤ → ℤ → List ℕ → Answer × List ℕ
 jumpCall start i j k out =
-    refuse (not (eqb (length start) 128)) StartLength out
-    (refuse (not (inRange i && (inRange j && inRange k))) NetCount out
-    (refuse (ltb (length out) 128) OutputLength out
-    (Done 128, bytesOf (jumped i j k (blockOf start)) ++ drop 128 out)))
+    checked (jumpChecks (length start) i j k (length out)) out (Done 128, bytesOf (jumped i j k (blockOf start)) ++ drop 128 out)

@@ -1,12 +1,12 @@
--- Laws of blocks: exclusive or, and bytes to words and back. Assumes nothing.
+-- Laws of blocks: which lists are blocks and which blocks are equal, exclusive or, and bytes to words and back. Assumes nothing.
 use mathlib.Core.Path.{_≡_, refl, sym, ap, ap₂, _∙_, subst}
 use mathlib.Core.List.{List, [], _∷_, _++_, append-nil}
-use Prim.Native.Nat.{ℕ, zero, suc, _+_, _-_, _*_, _/_, _%_, _^_, _≤_, _<_}
+use Prim.Native.Nat.{ℕ, zero, suc, _+_, _*_, _/_, _%_, _^_, _≤_, _<_}
 use native.Mathlib.Nat.{mod-lt, pow-suc, lt-of-lt-of-le, pow-le-pow-right}
 use native.Mathlib.Omega.{arith}
 use native.Mathlib.Decide.{decLt}
 use lib.Dec.{lit<}
-use lib.ListN.{length, getD, take, drop, length-take, length-drop, List·getD-eq-default}
+use lib.ListN.{length, getD, take, drop, set, length-set, length-take, length-drop, List·getD-eq-default}
 use lib.Seq.{take-all, getD-take, getD-drop}
 use lib.Bits.{bitXor, xor-lt, xor-comm, xor-self, xor-zero-r, xor-mod, xor-shr}
 use Rattle.words.specs.Sequence.{tab, cat}
@@ -29,6 +29,25 @@ block-tab f h = record { long = length-tab f 16; words = below-tab f 16 (2 ^ 64)
 -- a block is sixteen words
 pub block-is : (s : List ℕ) → Block s → s ≡ tab (λ i. getD s i 0) 16
 block-is s b = tab-getD s 16 (b .long)
+
+-- a list of sixteen is a block when each of its words fits
+pub block-of : (s : List ℕ) → length s ≡ 16 → ((i : ℕ) → i < 16 → getD s i 0 < 2 ^ 64) → Block s
+block-of s e h = subst Block (sym (tab-getD s 16 e)) (block-tab (λ i. getD s i 0) h)
+
+-- two blocks are equal when their words are
+pub block-ext : (s t : List ℕ) → Block s → Block t → ((i : ℕ) → i < 16 → getD s i 0 ≡ getD t i 0) → s ≡ t
+block-ext s t hs ht h = block-is s hs ∙ tab-ext (λ i. getD s i 0) (λ i. getD t i 0) 16 h ∙ sym (block-is t ht)
+
+set-below : (s : List ℕ) (i v : ℕ) → ((k : ℕ) → getD s k 0 < 2 ^ 64) → v < 2 ^ 64 → (k : ℕ) → getD (set s i v) k 0 < 2 ^ 64
+set-below [] i v hs hv k = lit< tt
+set-below (x ∷ xs) zero v hs hv zero = hv
+set-below (x ∷ xs) zero v hs hv (suc k) = hs (suc k)
+set-below (x ∷ xs) (suc i) v hs hv zero = hs zero
+set-below (x ∷ xs) (suc i) v hs hv (suc k) = set-below xs i v (λ j. hs (suc j)) hv k
+
+-- a block with another word in one place
+pub set-block : (s : List ℕ) (i v : ℕ) → Block s → v < 2 ^ 64 → Block (set s i v)
+set-block s i v b hv = record { long = length-set s i v ∙ b .long; words = set-below s i v (b .words) hv }
 
 pub zero-block : Block zeroBlock
 unfolding zeroBlock
@@ -180,6 +199,10 @@ blockOf-bytesOf b rest h =
     word i p =
         ap le (piece (wordBytes b) 8 16 i rest (length-wordBytes b) p) ∙ le-lowBytes 8 (getD b i 0) (h .words i)
 
+-- a block comes back from its bytes
+pub blockOf-bytes : (b : List ℕ) → Block b → blockOf (bytesOf b) ≡ b
+blockOf-bytes b h = ap blockOf (sym (append-nil (bytesOf b))) ∙ blockOf-bytesOf b [] h
+
 -- 128 bytes come back from their block
 pub bytesOf-blockOf : (s : List ℕ) → Bytes s → 128 ≤ length s → bytesOf (blockOf s) ≡ take 128 s
 unfolding bytesOf wordBytes blockOf wordAt
@@ -264,8 +287,8 @@ pub blockOf-xor : (s t : List ℕ) → Bytes s → Bytes t → length s ≡ 128 
     → blockOf (xorBytes s t) ≡ xorBlock (blockOf s) (blockOf t)
 blockOf-xor s t hs ht es et =
     ap₂ (λ (x y : List ℕ). blockOf (xorBytes x y)) (sym (bytes-are s hs es)) (sym (bytes-are t ht et))
-    ∙ ap blockOf (sym (bytesOf-xor (blockOf s) (blockOf t)) ∙ sym (append-nil (bytesOf (xorBlock (blockOf s) (blockOf t)))))
-    ∙ blockOf-bytesOf (xorBlock (blockOf s) (blockOf t)) [] (xor-block (blockOf s) (blockOf t) (block-blockOf s hs) (block-blockOf t ht))
+    ∙ ap blockOf (sym (bytesOf-xor (blockOf s) (blockOf t)))
+    ∙ blockOf-bytes (xorBlock (blockOf s) (blockOf t)) (xor-block (blockOf s) (blockOf t) (block-blockOf s hs) (block-blockOf t ht))
 
 -- ---- a block is what its bytes read as, zeros past their end
 

@@ -1,7 +1,10 @@
 pub mod Truth
 pub mod Lists
-pub mod Times
 pub mod Maps
+pub mod Times
+pub mod Loops
 pub mod Xor
 pub mod Words
+pub mod Linear
 pub mod Blocks
+pub mod Arrays

@@ -1,14 +1,21 @@
--- Laws of maps that undo each other: turned round, one after the other, and taken any number of times. Assumes nothing.
+-- Maps on the values that P tells of: those that keep to them, those that commute, and those that undo each other. Assumes nothing.
 use mathlib.Core.Path.{_≡_, refl, sym, ap, _∙_}
-use mathlib.Core.List.{List}
-use Prim.Native.Nat.{ℕ, zero, suc}
-use Rattle.words.specs.Sequence.{times}
-use Rattle.words.proofs.Times.{times-first, times-keeps}
 use Rattle.words.specs.Undo.{Undo}
 
+-- f takes such values to such values
+abbrev pub Keeps : {A : Type 0} → (A → Type 0) → (A → A) → Type 0
+Keeps {A} P f = (x : A) → P x → P (f x)
+
+-- h and f commute on them
+abbrev pub Commute : {A : Type 0} → (A → Type 0) → (A → A) → (A → A) → Type 0
+Commute {A} P h f = (x : A) → P x → h (f x) ≡ f (h x)
+
 module _ {A : Type 0} {P : A → Type 0} where
+  pub turn : (h f : A → A) → Commute P h f → Commute P f h
+  turn h f e x p = sym (e x p)
+
   pub undo-same : Undo P (λ x. x) (λ x. x)
-  undo-same = record { forth-keeps = λ x h. h; back-keeps = λ x h. h; back-forth = λ x h. refl; forth-back = λ x h. refl }
+  undo-same = record { forth-keeps = λ x p. p; back-keeps = λ x p. p; back-forth = λ x p. refl; forth-back = λ x p. refl }
 
   pub undo-flip : {f h : A → A} → Undo P f h → Undo P h f
   undo-flip u = record { forth-keeps = u .back-keeps; back-keeps = u .forth-keeps; back-forth = u .forth-back; forth-back = u .back-forth }
@@ -22,20 +29,8 @@ module _ {A : Type 0} {P : A → Type 0} where
     forth-back = λ x p. ap g (u .forth-back (k x) (v .back-keeps x p)) ∙ v .forth-back x p;
   }
 
-module _ (P : List ℕ → Type 0) where
-  times-back : (f h : List ℕ → List ℕ) → Undo P f h → (n : ℕ) (s : List ℕ) → P s → times h n (times f n s) ≡ s
-  unfolding times
-  times-back f h u zero s p = refl
-  times-back f h u (suc n) s p =
-      ap (λ (t : List ℕ). times h (suc n) t) (sym (times-first f n s))
-      ∙ ap h (times-back f h u n (f s) (u .forth-keeps s p))
-      ∙ u .back-forth s p
-
--- taken n times, for every n
-pub undo-times : {P : List ℕ → Type 0} {f h : List ℕ → List ℕ} → Undo P f h → (n : ℕ) → Undo P (times f n) (times h n)
-undo-times {P} {f} {h} u n = record {
-  forth-keeps = times-keeps P f (u .forth-keeps) n;
-  back-keeps = times-keeps P h (u .back-keeps) n;
-  back-forth = times-back P f h u n;
-  forth-back = times-back P h f (undo-flip u) n;
-}
+  -- what commutes with a map commutes with its way back
+  pub commute-back : {f h : A → A} → Undo P f h → (k : A → A) → Keeps P k → Commute P f k → Commute P h k
+  commute-back {f} {h} u k keeps c x p =
+      let q = u .back-keeps x p in
+      ap (λ (y : A). h (k y)) (sym (u .forth-back x p)) ∙ ap h (sym (c (h x) q)) ∙ u .back-forth (k (h x)) (keeps (h x) q)

@@ -1,4 +1,4 @@
--- Laws of rotations and shifts of 64-bit words. Assumes nothing.
+-- Laws of 64-bit words: sums and differences that wrap, rotations and shifts. Assumes nothing.
 use mathlib.Core.Path.{_≡_, sym, ap, ap₂, _∙_, subst}
 use Prim.Native.Nat.{ℕ, _+_, _-_, _*_, _/_, _%_, _^_, _<_}
 use native.Mathlib.Nat.{add-comm, add-zero, mod-lt, mul-mod-left}
@@ -6,7 +6,27 @@ use native.Mathlib.Omega.{arith}
 use lib.Pow.{pow-pos, pow-add, high, low, split, shr-lt, shl-shr, mod-pow-add}
 use lib.Arith.{digits-lt}
 use lib.Bits.{bitOr, bitXor, or-shifted-r, xor-block, xor-shr, xor-mod}
-use Rattle.words.specs.Word.{rotR, shl}
+use Rattle.words.specs.Word.{addW, subW, rotR, shl}
+
+-- ---- sums and differences that wrap
+
+pub addW-lt : (x y : ℕ) → addW x y < 2 ^ 64
+unfolding addW
+addW-lt x y = mod-lt (x + y) (pow-pos 64)
+
+pub subW-lt : (x y : ℕ) → subW x y < 2 ^ 64
+unfolding subW
+subW-lt x y = mod-lt (x + (2 ^ 64 - y)) (pow-pos 64)
+
+pub subW-addW : (x y : ℕ) → x < 2 ^ 64 → y < 2 ^ 64 → subW (addW x y) y ≡ x
+unfolding addW subW
+subW-addW x y hx hy = omega arith
+
+pub addW-subW : (x y : ℕ) → x < 2 ^ 64 → y < 2 ^ 64 → addW (subW x y) y ≡ x
+unfolding addW subW
+addW-subW x y hx hy = omega arith
+
+-- ---- rotations
 
 module _ (j k : ℕ) (e : j + k ≡ 64) where
   other : 64 - j ≡ k
@@ -48,6 +68,8 @@ rotR-back j k e x h =
     ∙ ap (λ (y : ℕ). (y % 2 ^ k) * 2 ^ j + y / 2 ^ k) (rotR-is j k e x)
     ∙ ap₂ (λ (a b : ℕ). a * 2 ^ j + b) (low (x % 2 ^ j) k (top-lt j k e x h)) (high (x % 2 ^ j) k (top-lt j k e x h))
     ∙ split x j
+
+-- ---- shifts
 
 scaled : (n x y : ℕ) → bitXor x y * 2 ^ n ≡ bitXor (x * 2 ^ n) (y * 2 ^ n)
 scaled n x y =

@@ -1,4 +1,4 @@
--- Laws of exclusive or on numbers that the library lacks: it is associative, and cancels. Assumes nothing.
+-- Laws of exclusive or on numbers that the library lacks: it is associative, its parts change places, and it cancels. Assumes nothing.
 use mathlib.Core.Path.{_≡_, refl, sym, ap, ap₂, _∙_}
 use Prim.Native.Nat.{ℕ, zero, suc, _+_, _*_, _/_, _%_, _<_}
 use native.Mathlib.Omega.{arith}
@@ -44,9 +44,15 @@ xor-cancel-l a b = sym (xor-assoc a a b) ∙ ap (λ (x : ℕ). bitXor x b) (xor-
 pub xor-cancel-r : (a b : ℕ) → bitXor (bitXor a b) b ≡ a
 xor-cancel-r a b = xor-assoc a b b ∙ ap (bitXor a) (xor-self b) ∙ xor-zero-r a
 
+-- b and a change places
+pub xor-left : (a b c : ℕ) → bitXor a (bitXor b c) ≡ bitXor b (bitXor a c)
+xor-left a b c = sym (xor-assoc a b c) ∙ ap (λ (x : ℕ). bitXor x c) (xor-comm a b) ∙ xor-assoc b a c
+
 -- (a b)(c d) = (a c)(b d)
 pub xor-swap : (a b c d : ℕ) → bitXor (bitXor a b) (bitXor c d) ≡ bitXor (bitXor a c) (bitXor b d)
-xor-swap a b c d =
-    xor-assoc a b (bitXor c d)
-    ∙ ap (bitXor a) (sym (xor-assoc b c d) ∙ ap (λ (x : ℕ). bitXor x d) (xor-comm b c) ∙ xor-assoc c b d)
-    ∙ sym (xor-assoc a c (bitXor b d))
+xor-swap a b c d = xor-assoc a b (bitXor c d) ∙ ap (bitXor a) (xor-left b c d) ∙ sym (xor-assoc a c (bitXor b d))
+
+-- two numbers are equal where their exclusive or is that of two equal numbers
+pub same-where : (a c u v : ℕ) → bitXor a c ≡ bitXor u v → u ≡ v → a ≡ c
+same-where a c u v e q =
+    sym (xor-cancel-r a c) ∙ ap (λ (x : ℕ). bitXor x c) (e ∙ ap (λ (x : ℕ). bitXor x v) q ∙ xor-self v) ∙ xor-zero-l c

@@ -1,8 +1,11 @@
 //! What is measured: implementations, settings, calls and lengths.
 
 use crate::sodium::Sodium;
+use crate::table::grouped;
 use baseline::Sealing;
+use reference::{MRO, OPP};
 use std::fmt;
+use std::hint::black_box;
 
 /// Message lengths in bytes. The first is a sale record.
 pub const LENGTHS: [usize; 5] = [13, 128, 1024, 4096, 65_536];
@@ -40,14 +43,19 @@ pub type Setting = Option<(u32, u32)>;
 /// The name of a setting.
 pub fn setting_name(setting: Setting) -> String {
     match setting {
-        Some((1, rounds)) => format!("OPP, {rounds} rounds"),
+        Some((OPP, rounds)) => format!("OPP, {rounds} rounds"),
         Some((_, rounds)) => format!("MRO, {rounds} rounds"),
         None => "libsodium".into(),
     }
 }
 
-/// Modes and round counts.
-pub const SETTINGS: [Setting; 4] = [Some((1, 4)), Some((1, 6)), Some((2, 4)), Some((2, 6))];
+/// Every mode with every round count.
+pub fn settings() -> Vec<Setting> {
+    reference::settings().map(Some).collect()
+}
+
+/// How a sale record is sealed.
+pub const SALE: Setting = Some((MRO, 6));
 
 /// Which call is made.
 #[derive(Clone, Copy, Debug, PartialEq, Eq)]
@@ -80,10 +88,22 @@ pub struct Key {
     pub len: usize,
 }
 
-/// A case: its name and the call it measures, which returns the bytes written.
+impl fmt::Display for Key {
+    fn fmt(&self, f: &mut fmt::Formatter<'_>) -> fmt::Result {
+        let (setting, len) = (setting_name(self.setting), grouped(self.len));
+        write!(f, "{setting}, {}, {len} bytes", self.operation)
+    }
+}
+
+/// What a call answers where the tag differs. Else it answers the bytes written, or another number
+/// from 2^32 on.
+pub const TAG_DIFFERS: u64 = 9 << 32;
+
+/// A case: its name, the call it measures and what that has to answer.
 pub struct Case {
     pub key: Key,
-    pub call: Box<dyn FnMut() -> u64>,
+    call: Box<dyn FnMut() -> u64>,
+    wanted: u64,
 }
 
 impl Case {
@@ -99,13 +119,23 @@ impl Case {
             parcel[key.len] ^= 1;
         }
         let sealing = key.operation == Operation::Seal;
+        let wanted = match key.operation {
+            Operation::Seal => parcel.len() as u64,
+            Operation::Open => message.len() as u64,
+            Operation::Refuse => TAG_DIFFERS,
+        };
         let (input, mut output) = if sealing {
             (message, parcel)
         } else {
             (parcel, message)
         };
         let call = Box::new(move || run(sealing, &input, &mut output));
-        Self { key, call }
+        Self { key, call, wanted }
+    }
+
+    /// Makes the call, and tells whether it answered what it has to.
+    pub fn make(&mut self) -> bool {
+        black_box((self.call)()) == self.wanted
     }
 }
 
@@ -114,7 +144,7 @@ pub fn all(sodium: Option<&Sodium>) -> Vec<Case> {
     let mut cases = Vec::new();
     for operation in OPERATIONS {
         for len in [0].into_iter().chain(LENGTHS) {
-            for setting in SETTINGS {
+            for setting in settings() {
                 for seal_open in SealOpen::all() {
                     cases.push(seal_open.case(setting, operation, len));
                 }
@@ -200,7 +230,10 @@ impl SealOpen {
                 } else {
                     reference::open
                 };
-                call(mode, rounds, &KEY, nonce, &[], input, output).unwrap_or(0) as u64
+                match call(mode, rounds, &KEY, nonce, &[], input, output) {
+                    Ok(written) => written as u64,
+                    Err((number, _)) => u64::from(number) << 32,
+                }
             }
         }
     }

@@ -4,15 +4,17 @@
 mod cases;
 mod measure;
 mod plot;
+mod ratios;
 mod report;
 mod sodium;
 mod table;
 
 use measure::Samples;
+use ratios::Ratio;
 use report::Setup;
 use sodium::Sodium;
 use std::fs;
-use std::path::PathBuf;
+use std::path::{Path, PathBuf};
 use std::process::ExitCode;
 use std::time::{SystemTime, UNIX_EPOCH};
 
@@ -22,55 +24,93 @@ usage: bench [OPTIONS]
 options:
   --docs FOLDER   write BENCHMARKS.md and benchmarks.svg there
   --gate FILE     the gate's times: a line for each crate, its name and its seconds
-  --batches N     batches of calls for each figure [500]";
+  --batches N     batches of calls for each figure [500]
+
+The status is 1 where a timed call does not answer what it has to, or where a ratio is above
+its bound or was not measured.";
+
+/// What is asked for.
+struct Options {
+    docs: Option<PathBuf>,
+    gate: Vec<(String, String)>,
+    batches: usize,
+}
 
 fn main() -> ExitCode {
-    match run() {
+    let options = match parse(std::env::args().skip(1)) {
+        Ok(options) => options,
+        Err(message) => {
+            eprintln!("bench: {message}\n\n{USAGE}");
+            return ExitCode::from(2);
+        }
+    };
+    match run(options) {
         Ok(()) => ExitCode::SUCCESS,
         Err(message) => {
             eprintln!("bench: {message}");
-            ExitCode::from(2)
+            ExitCode::FAILURE
         }
     }
 }
 
-fn run() -> Result<(), String> {
-    let (mut docs, mut gate, mut batches) = (None, Vec::new(), 500);
-    let mut args = std::env::args().skip(1);
+fn parse(mut args: impl Iterator<Item = String>) -> Result<Options, String> {
+    let mut options = Options {
+        docs: None,
+        gate: Vec::new(),
+        batches: 500,
+    };
     while let Some(option) = args.next() {
         let value = args
             .next()
-            .ok_or_else(|| format!("{option} needs a value\n\n{USAGE}"))?;
+            .ok_or_else(|| format!("{option} needs a value"))?;
         match option.as_str() {
-            "--docs" => docs = Some(PathBuf::from(value)),
-            "--gate" => gate = gate_times(&value)?,
-            "--batches" => batches = value.parse().map_err(|_| format!("no number: {value}"))?,
-            _ => return Err(format!("no option '{option}'\n\n{USAGE}")),
+            "--docs" => options.docs = Some(value.into()),
+            "--gate" => options.gate = gate_times(&value)?,
+            "--batches" => options.batches = batches(&value)?,
+            _ => return Err(format!("no option '{option}'")),
         }
     }
+    Ok(options)
+}
+
+fn batches(text: &str) -> Result<usize, String> {
+    match text.parse() {
+        Ok(batches) if batches > 0 => Ok(batches),
+        _ => Err(format!("no number of batches: {text}")),
+    }
+}
+
+/// Measures, writes the page, and only then fails where a ratio is above its bound.
+fn run(options: Options) -> Result<(), String> {
     let sodium = Sodium::load();
     if sodium.is_none() {
         eprintln!("bench: no libsodium found: install libsodium-dev for its rows");
     }
-    let samples = Samples::take(&mut cases::all(sodium.as_ref()), batches.max(1));
+    let samples = Samples::take(&mut cases::all(sodium.as_ref()), options.batches)?;
     let setup = Setup {
         date: date(),
         processor: processor(),
         gigahertz: measure::counter_speed(),
-        batches,
-        gate,
+        batches: options.batches,
+        gate: options.gate,
     };
     let page = report::page(&setup, &samples);
     print!("{page}");
-    if let Some(docs) = docs {
-        let write = |name: &str, text: &str| {
-            let path = docs.join(name);
-            fs::write(&path, text).map_err(|error| format!("{}: {error}", path.display()))
-        };
-        write("BENCHMARKS.md", &page)?;
-        write("benchmarks.svg", &plot::svg(&samples))?;
+    if let Some(docs) = options.docs {
+        write(&docs, "BENCHMARKS.md", &page)?;
+        write(&docs, "benchmarks.svg", &plot::svg(&samples))?;
     }
-    Ok(())
+    let ratios = Ratio::all();
+    let faults: Vec<String> = ratios.iter().filter_map(|r| r.fault(&samples)).collect();
+    if faults.is_empty() {
+        return Ok(());
+    }
+    Err(faults.join("\nbench: "))
+}
+
+fn write(folder: &Path, name: &str, text: &str) -> Result<(), String> {
+    let path = folder.join(name);
+    fs::write(&path, text).map_err(|error| format!("{}: {error}", path.display()))
 }
 
 fn gate_times(path: &str) -> Result<Vec<(String, String)>, String> {

@@ -2,7 +2,6 @@
 
 use crate::cases::{Case, Key};
 use std::arch::x86_64::{_mm_lfence, _rdtsc};
-use std::hint::black_box;
 use std::time::{Duration, Instant};
 
 /// A batch of calls takes about this many cycles or more, well above the cost of the two readings.
@@ -16,21 +15,25 @@ pub struct Samples {
 impl Samples {
     /// Times `batches` batches of every case. The cases take turns, so that what slows the machine
     /// for a while slows them all.
-    pub fn take(cases: &mut [Case], batches: usize) -> Self {
-        let sizes: Vec<u64> = cases.iter_mut().map(batch_size).collect();
+    ///
+    /// # Errors
+    ///
+    /// The case of a call that does not answer what it has to.
+    pub fn take(cases: &mut [Case], batches: usize) -> Result<Self, String> {
+        let sizes: Vec<u64> = cases.iter_mut().map(batch_size).collect::<Result<_, _>>()?;
         let mut series: Vec<(Key, Vec<f64>)> =
             cases.iter().map(|case| (case.key, Vec::new())).collect();
         let begin = Instant::now();
         for batch in 1..=batches {
             for ((case, size), (_, samples)) in cases.iter_mut().zip(&sizes).zip(&mut series) {
-                samples.push(time(case, *size) as f64 / *size as f64);
+                samples.push(time(case, *size)? as f64 / *size as f64);
             }
             if batch % 100 == 0 {
                 let seconds = begin.elapsed().as_secs_f64();
                 eprintln!("bench: {batch} of {batches} batches, {seconds:.0} s");
             }
         }
-        Self { series }
+        Ok(Self { series })
     }
 
     fn of(&self, key: Key) -> Option<&[f64]> {
@@ -60,19 +63,26 @@ impl Samples {
     }
 }
 
-fn batch_size(case: &mut Case) -> u64 {
-    let cycles = (0..5).map(|_| time(case, 1)).min().unwrap_or(1);
-    (BATCH_CYCLES / cycles.max(1)).max(1)
+fn batch_size(case: &mut Case) -> Result<u64, String> {
+    let mut cycles = u64::MAX;
+    for _ in 0..5 {
+        cycles = cycles.min(time(case, 1)?);
+    }
+    Ok((BATCH_CYCLES / cycles.max(1)).max(1))
 }
 
 /// The cycles of `calls` calls, after one that brings code and buffers into the caches.
-fn time(case: &mut Case, calls: u64) -> u64 {
-    black_box((case.call)());
+fn time(case: &mut Case, calls: u64) -> Result<u64, String> {
+    let mut sound = case.make();
     let begin = clock();
     for _ in 0..calls {
-        black_box((case.call)());
+        sound &= case.make();
     }
-    clock() - begin
+    let cycles = clock() - begin;
+    let (key, by) = (case.key, case.key.implementation);
+    sound
+        .then_some(cycles)
+        .ok_or_else(|| format!("{key}, {by}: a timed call does not answer what it has to"))
 }
 
 /// The time stamp counter, once all that stands before is done.

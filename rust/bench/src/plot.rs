@@ -1,6 +1,6 @@
 //! The picture: cycles per byte over length, both scales logarithmic.
 
-use crate::cases::{setting_name, Implementation, Key, Operation, Setting, LENGTHS, SETTINGS};
+use crate::cases::{setting_name, settings, Implementation, Key, Operation, Setting, LENGTHS};
 use crate::measure::Samples;
 use crate::table::grouped;
 use std::fmt::Write;
@@ -12,9 +12,12 @@ const RIGHT: f64 = 600.0;
 const TOP: f64 = 48.0;
 const BOTTOM: f64 = 460.0;
 const TICKS: [f64; 8] = [0.5, 1.0, 2.0, 5.0, 10.0, 20.0, 50.0, 100.0];
-const COLOURS: [&str; 6] = [
-    "#0072b2", "#56b4e9", "#d55e00", "#e69f00", "#009e73", "#555555",
+/// Of the settings.
+const COLOURS: [&str; 8] = [
+    "#0072b2", "#56b4e9", "#d55e00", "#e69f00", "#cc79a7", "#8c510a", "#6a3d9a", "#a6cee3",
 ];
+/// Of libsodium's ciphers.
+const OTHERS: [&str; 2] = ["#009e73", "#555555"];
 
 struct Line {
     name: String,
@@ -62,12 +65,13 @@ fn lines(samples: &Samples) -> Vec<Line> {
             });
         }
     };
-    for (setting, colour) in SETTINGS.into_iter().zip(COLOURS) {
+    for (i, setting) in settings().into_iter().enumerate() {
+        let colour = COLOURS[i % COLOURS.len()];
         add(Implementation::Library, setting, colour, false);
         add(Implementation::ScalarC, setting, colour, true);
     }
-    add(Implementation::XChaCha, None, COLOURS[4], false);
-    add(Implementation::AesGcm, None, COLOURS[5], false);
+    add(Implementation::XChaCha, None, OTHERS[0], false);
+    add(Implementation::AesGcm, None, OTHERS[1], false);
     lines
 }
 

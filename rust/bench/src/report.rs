@@ -1,8 +1,8 @@
 //! The page of results.
 
-use crate::cases::{setting_name, Implementation, Key, Operation, Setting};
-use crate::cases::{LENGTHS, OPERATIONS, SETTINGS};
+use crate::cases::{setting_name, settings, Implementation, Key, Operation, LENGTHS, OPERATIONS};
 use crate::measure::Samples;
+use crate::ratios::Ratio;
 use crate::table::{grouped, Table};
 use std::fmt::Write;
 
@@ -14,8 +14,8 @@ const CONSTRUCTION: [Implementation; 3] = [
 const SODIUM: [Implementation; 2] = [Implementation::XChaCha, Implementation::AesGcm];
 
 /// What stands below the ratios.
-const BOUNDS: &str =
-    "The bounds are what this project asks of itself: no ratio above its bound.\n\n";
+const BOUNDS: &str = "The bounds are what this project asks of itself: `make bench` fails where a \
+    ratio is above its bound.\n\n";
 
 /// What stands below the growth.
 const FIXED_COST: &str = "1 is linear growth. A call has a fixed cost, the start's and the tag's \
@@ -78,8 +78,10 @@ fn figures(samples: &Samples, figure: impl Fn(f64, usize) -> String) -> Table {
     let mut heading = vec!["", "call", "implementation"];
     heading.extend(lengths.iter().map(String::as_str));
     let mut table = Table::new(3, &heading);
-    let groups = SETTINGS.map(|setting| (setting, &CONSTRUCTION[..]));
-    for (setting, implementations) in groups.into_iter().chain([(None, &SODIUM[..])]) {
+    let groups = settings()
+        .into_iter()
+        .map(|setting| (setting, &CONSTRUCTION[..]));
+    for (setting, implementations) in groups.chain([(None, &SODIUM[..])]) {
         for operation in OPERATIONS {
             for &implementation in implementations {
                 let key = Key {
@@ -111,62 +113,14 @@ fn names(key: Key) -> [String; 3] {
     ]
 }
 
-fn library(setting: Setting, operation: Operation, len: usize) -> Key {
-    Key {
-        implementation: Implementation::Library,
-        setting,
-        operation,
-        len,
-    }
-}
-
-/// The ratios with a bound. A ratio is taken batch by batch, and its median is given.
+/// The ratios that have a bound.
 fn ratios(samples: &Samples) -> Table {
     let mut table = Table::new(1, &["", "ratio", "bound"]);
-    let mut row = |name: String, key: Key, by: Key, bound: &str| {
-        if let Some(ratio) = samples.ratio(key, by) {
-            table.row(vec![name, format!("{ratio:.3}"), bound.into()]);
-        }
-    };
-    for setting in SETTINGS {
-        for operation in [Operation::Seal, Operation::Open] {
-            let key = library(setting, operation, 65_536);
-            let by = Key {
-                implementation: Implementation::ScalarC,
-                ..key
-            };
-            let name = format!(
-                "{}, {operation}, 65,536 bytes, by scalar C",
-                setting_name(setting)
-            );
-            row(name, key, by, "1.15");
-        }
-    }
-    for setting in SETTINGS {
-        for operation in [Operation::Open, Operation::Refuse] {
-            let key = library(setting, operation, 65_536);
-            let by = library(setting, Operation::Seal, 65_536);
-            let name = format!(
-                "{}, {operation}, 65,536 bytes, by seal",
-                setting_name(setting)
-            );
-            row(name, key, by, "1.10");
-        }
-    }
-    for operation in [Operation::Seal, Operation::Open] {
-        let key = library(Some((2, 6)), operation, 13);
-        let implementation = Implementation::XChaCha;
-        let by = Key {
-            implementation,
-            setting: None,
-            ..key
-        };
-        row(
-            format!("MRO, 6 rounds, {operation}, 13 bytes, by {implementation}"),
-            key,
-            by,
-            "1.10",
-        );
+    for ratio in Ratio::all() {
+        let measured = ratio.measured(samples);
+        let measured = measured.map_or("none".into(), |ratio| format!("{ratio:.3}"));
+        let bound = format!("{:.2}", ratio.bound);
+        table.row(vec![ratio.to_string(), measured, bound]);
     }
     table
 }
@@ -182,7 +136,7 @@ fn growth(samples: &Samples) -> Table {
         "above an empty message",
     ];
     let mut table = Table::new(3, &heading);
-    for setting in SETTINGS {
+    for setting in settings() {
         for operation in [Operation::Seal, Operation::Open] {
             for implementation in [Implementation::Library, Implementation::ScalarC] {
                 let long = Key {

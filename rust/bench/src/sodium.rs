@@ -1,6 +1,6 @@
 //! libsodium, loaded when the program runs, so that it builds without it.
 
-use crate::cases::{Case, Implementation, Key, Operation, KEY, NONCE};
+use crate::cases::{Case, Implementation, Key, Operation, KEY, NONCE, TAG_DIFFERS};
 use std::ffi::{c_char, c_int, c_uchar, c_ulonglong, c_void, CStr};
 use std::ptr::{null, null_mut};
 
@@ -140,7 +140,7 @@ impl Aead {
         // SAFETY: the output has room for the text and the tag; key and nonce are long enough.
         let result =
             unsafe { (self.encrypt)(out, null_mut(), text, len, null(), 0, null(), nonce, key) };
-        result as u64
+        answer(result, sealed.len())
     }
 
     fn decrypt(&self, sealed: &[u8], message: &mut [u8]) -> u64 {
@@ -161,6 +161,14 @@ impl Aead {
                 key,
             )
         };
-        result as u64
+        answer(result, message.len())
+    }
+}
+
+/// libsodium's result, 0 for success, as this construction's calls answer.
+fn answer(result: c_int, written: usize) -> u64 {
+    match result {
+        0 => written as u64,
+        _ => TAG_DIFFERS,
     }
 }

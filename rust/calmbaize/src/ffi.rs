@@ -2,8 +2,10 @@
 //!
 //! Pointers may be null where the length is 0. The output must not overlap another buffer.
 
+use crate::Refusal;
+
 extern "C" {
-    /// See [`crate::seal`].
+    /// See [`slices::seal`](crate::slices::seal).
     pub fn calmbaize_seal(
         mode: u32,
         rounds: u32,
@@ -19,7 +21,7 @@ extern "C" {
         output_len: usize,
     ) -> u64;
 
-    /// See [`crate::open`].
+    /// See [`slices::open`](crate::slices::open).
     pub fn calmbaize_open(
         mode: u32,
         rounds: u32,
@@ -35,7 +37,7 @@ extern "C" {
         output_len: usize,
     ) -> u64;
 
-    /// See [`crate::walk`].
+    /// See [`slices::walk`](crate::slices::walk).
     pub fn calmbaize_walk(
         start: *const u8,
         start_len: usize,
@@ -45,7 +47,7 @@ extern "C" {
         output_len: usize,
     ) -> u64;
 
-    /// See [`crate::jump`].
+    /// See [`slices::jump`](crate::slices::jump).
     pub fn calmbaize_jump(
         start: *const u8,
         start_len: usize,
@@ -55,4 +57,16 @@ extern "C" {
         output: *mut u8,
         output_len: usize,
     ) -> u64;
+}
+
+/// Takes an answer apart: the value of a success, such as the bytes written, or the refusal.
+///
+/// No answer makes it panic: what this version does not know is
+/// [`Ground::Unknown`](crate::Ground::Unknown).
+pub const fn decode(answer: u64) -> Result<u32, Refusal> {
+    let (number, value) = ((answer >> 32) as u32, answer as u32);
+    match number {
+        0 => Ok(value),
+        _ => Err(Refusal::new(number, value)),
+    }
 }

@@ -1,5 +1,8 @@
 //! The texts of `--help`.
 
+use crate::commands::DEFAULT_ROUNDS;
+use calmbaize::Rounds;
+
 pub const GENERAL: &str = "\
 Seals and opens messages, and walks the masks behind both.
 
@@ -11,54 +14,66 @@ commands:
   walk    take a list of steps from a start block
   jump    take net counts of steps from a start block
 
-'calmbaize COMMAND --help' has the options of each.
+'calmbaize COMMAND --help' has the options of each. A FILE of '-' is standard
+input or standard output.
 
 exit status: 0 done, 1 refused by the library, 2 wrong usage or a file that
-can't be read or written. Where it is not 0, nothing is written.
+can't be read or written.
+
+Where a command is refused, misused or can't read, nothing is written. Where it
+can't write, a file stays as it was; standard output, a pipe or a device may
+have got a part.
 ";
 
-pub const SEAL: &str = "\
+/// Behind an option that puts a secret on the command line.
+const SEEN: &str = "other users can
+                           see it in the list of processes";
+
+const HEX_AND_HELP: &str = "  -x, --hex                write hexadecimal and a line feed
+  -h, --help               this text
+";
+
+const OWNER: &str = "\
+What is written is secret: a file of it can be read by its owner alone, whatever
+permissions it had before. Standard output, a pipe or a device is left as it is.
+";
+
+pub fn seal() -> String {
+    let settings = settings();
+    format!(
+        "\
 Encrypts and authenticates a message of up to 65,536 bytes. The parcel is the
 ciphertext and then a tag of 32 bytes.
 
 usage: calmbaize seal OPTIONS
 
 options:
-  -k, --key HEX            key, 32 bytes in hexadecimal
-      --key-file FILE      key, 32 raw bytes, kept out of process lists
-  -n, --nonce HEX          nonce, 16 bytes in hexadecimal
-      --nonce-file FILE    nonce, 16 raw bytes
-      --header HEX         header, authenticated but not sent [none]
-      --header-file FILE   header, up to 4,096 raw bytes
-  -m, --mode opp|mro       opp needs a fresh nonce for every message [mro]
-  -r, --rounds 4|6         rounds of the permutation [6]
-  -i, --input FILE         message [standard input]
+{settings}  -i, --input FILE         message [standard input]
   -o, --output FILE        parcel [standard output]
-  -x, --hex                write hexadecimal and a line feed
-  -h, --help               this text
-";
+{HEX_AND_HELP}"
+    )
+}
 
-pub const OPEN: &str = "\
+pub fn open() -> String {
+    let settings = settings();
+    format!(
+        "\
 Verifies and decrypts a parcel. Settings must be those it was sealed with.
 
 usage: calmbaize open OPTIONS
 
 options:
-  -k, --key HEX            key, 32 bytes in hexadecimal
-      --key-file FILE      key, 32 raw bytes, kept out of process lists
-  -n, --nonce HEX          nonce, 16 bytes in hexadecimal
-      --nonce-file FILE    nonce, 16 raw bytes
-      --header HEX         header that was authenticated [none]
-      --header-file FILE   header, up to 4,096 raw bytes
-  -m, --mode opp|mro       mode [mro]
-  -r, --rounds 4|6         rounds of the permutation [6]
-  -i, --input FILE         parcel [standard input]
+{settings}  -i, --input FILE         parcel [standard input]
   -o, --output FILE        message [standard output]
-  -x, --hex                write hexadecimal and a line feed
-  -h, --help               this text
-";
+{HEX_AND_HELP}
+{OWNER}"
+    )
+}
 
-pub const WALK: &str = "\
+pub fn walk() -> String {
+    let start = start();
+    format!(
+        "\
 Takes the steps of a list, one after the other, from a start block of 128 bytes
 and writes the 128 bytes of the block reached.
 
@@ -67,14 +82,14 @@ usage: calmbaize walk OPTIONS
 options:
   -s, --steps LETTERS      a, b, g for alpha, beta, gamma; A, B, G for the steps
                            back; up to 4,096 of them [none]
-      --start HEX          start, in hexadecimal
-  -i, --input FILE         start, raw bytes [standard input]
-  -o, --output FILE        block reached [standard output]
-  -x, --hex                write hexadecimal and a line feed
-  -h, --help               this text
-";
+{start}"
+    )
+}
 
-pub const JUMP: &str = "\
+pub fn jump() -> String {
+    let start = start();
+    format!(
+        "\
 Takes net counts of steps from a start block of 128 bytes, back steps where a
 count is negative, and writes the 128 bytes of the block reached.
 
@@ -84,9 +99,34 @@ options:
   -a, --alpha COUNT        alpha steps, -65536 to 65536 [0]
   -b, --beta COUNT         beta steps [0]
   -g, --gamma COUNT        gamma steps [0]
-      --start HEX          start, in hexadecimal
+{start}"
+    )
+}
+
+/// What seal and open share.
+fn settings() -> String {
+    let (allowed, default) = (Rounds::LIST, DEFAULT_ROUNDS.count());
+    format!(
+        "      --key HEX            key, 32 bytes in hexadecimal; {SEEN}
+      --key-file FILE      key, 32 raw bytes
+  -n, --nonce HEX          nonce, 16 bytes in hexadecimal
+      --nonce-file FILE    nonce, 16 raw bytes
+      --header HEX         header, authenticated but not sent [none]
+      --header-file FILE   header, up to 4,096 raw bytes
+  -m, --mode opp|mro       opp needs a fresh nonce for every message [mro]
+  -r, --rounds COUNT       rounds of the permutation, {allowed} [{default}]
+"
+    )
+}
+
+/// What walk and jump share.
+fn start() -> String {
+    format!(
+        "      --start HEX          start, in hexadecimal; {SEEN}
   -i, --input FILE         start, raw bytes [standard input]
   -o, --output FILE        block reached [standard output]
-  -x, --hex                write hexadecimal and a line feed
-  -h, --help               this text
-";
+{HEX_AND_HELP}
+From a start, and from every block reached, there is a way back to the key.
+{OWNER}"
+    )
+}

@@ -2,10 +2,11 @@
 
 use crate::Failure;
 use std::ffi::{OsStr, OsString};
+use std::os::unix::ffi::OsStrExt;
 
-/// Names of one letter, and the long names they stand for.
-const SHORT: [(&str, &str); 13] = [
-    ("-k", "--key"),
+/// Names of one letter, and the long names they stand for. The key has none: it belongs into a
+/// file.
+const SHORT: [(&str, &str); 11] = [
     ("-n", "--nonce"),
     ("-m", "--mode"),
     ("-r", "--rounds"),
@@ -17,7 +18,6 @@ const SHORT: [(&str, &str); 13] = [
     ("-a", "--alpha"),
     ("-b", "--beta"),
     ("-g", "--gamma"),
-    ("-V", "--version"),
 ];
 
 /// Options without a value.
@@ -25,46 +25,39 @@ const FLAGS: [&str; 2] = ["--hex", "--help"];
 
 /// Options by their long names, each with its value.
 pub struct Options {
-    given: Vec<(String, OsString)>,
+    given: Vec<(&'static str, OsString)>,
 }
 
 impl Options {
     /// Reads the arguments behind a command that takes the options `known`.
     pub fn parse(
-        args: impl IntoIterator<Item = OsString>,
-        known: &[&str],
+        mut args: impl Iterator<Item = OsString>,
+        known: &[&'static str],
     ) -> Result<Self, Failure> {
-        let mut given: Vec<(String, OsString)> = Vec::new();
-        let mut args = args.into_iter();
+        let mut options = Self { given: Vec::new() };
         while let Some(arg) = args.next() {
-            let text = arg.to_string_lossy().into_owned();
-            let (name, attached) = match text.split_once('=') {
-                Some((name, value)) if name.starts_with("--") => (name, Some(value)),
-                _ => (text.as_str(), None),
+            let (written, attached) = split(&arg);
+            let name = known_name(written, known)?;
+            let wrong = |what: &str| Err(Failure::Usage(format!("{name} {what}")));
+            let value = match (FLAGS.contains(&name), attached) {
+                _ if options.has(name) => return wrong("is given twice"),
+                (true, None) => OsString::new(),
+                (true, Some(_)) => return wrong("takes no value"),
+                (false, Some(value)) if written == name => value.to_os_string(),
+                (false, Some(_)) => return wrong("has '=' behind its long name only"),
+                (false, None) => match args.next() {
+                    Some(value) => value,
+                    None => return wrong("needs a value"),
+                },
             };
-            let name = long_name(name);
-            if !known.contains(&name) {
-                return Err(Failure::Usage(format!("unknown option '{text}'")));
-            }
-            if given.iter().any(|(other, _)| other == name) {
-                return Err(Failure::Usage(format!("{name} is given twice")));
-            }
-            let value = match attached {
-                Some(value) if !FLAGS.contains(&name) => value.into(),
-                Some(_) => return Err(Failure::Usage(format!("{name} takes no value"))),
-                None if FLAGS.contains(&name) => OsString::new(),
-                None => args
-                    .next()
-                    .ok_or_else(|| Failure::Usage(format!("{name} needs a value")))?,
-            };
-            given.push((name.into(), value));
+            options.given.push((name, value));
         }
-        Ok(Self { given })
+        Ok(options)
     }
 
     /// The value of an option, if it is given.
     pub fn value(&self, name: &str) -> Option<&OsStr> {
-        let found = self.given.iter().find(|(other, _)| other == name);
+        let found = self.given.iter().find(|(other, _)| *other == name);
         found.map(|(_, value)| value.as_os_str())
     }
 
@@ -109,9 +102,27 @@ impl Options {
     }
 }
 
-fn long_name(name: &str) -> &str {
-    let found = SHORT.iter().find(|(short, _)| *short == name);
-    found.map_or(name, |(_, long)| long)
+/// An option up to '=', and the value behind that with all its bytes, which need not be text.
+fn split(arg: &OsStr) -> (&OsStr, Option<&OsStr>) {
+    let bytes = arg.as_bytes();
+    match bytes.iter().position(|&byte| byte == b'=') {
+        Some(at) => (
+            OsStr::from_bytes(&bytes[..at]),
+            Some(OsStr::from_bytes(&bytes[at + 1..])),
+        ),
+        None => (arg, None),
+    }
+}
+
+/// The long name among `known` that an option is written for.
+fn known_name(written: &OsStr, known: &[&'static str]) -> Result<&'static str, Failure> {
+    let short = SHORT.iter().find(|(short, _)| written == *short);
+    let long = short.map_or(written, |(_, long)| OsStr::new(long));
+    let found = known.iter().find(|name| long == **name);
+    found.copied().ok_or_else(|| {
+        let written = written.to_string_lossy();
+        Failure::Usage(format!("unknown option '{written}'"))
+    })
 }
 
 fn bad(name: &str, what: &str) -> Failure {

@@ -3,6 +3,7 @@
 use crate::library::{Call, Library};
 use crate::prng::Prng;
 use crate::report::{Check, Tally};
+use reference::{settings, MAX_COUNT, MAX_HEADER_LEN, MAX_MESSAGE_LEN, MAX_STEPS};
 
 const HEADERS: [usize; 10] = [0, 1, 127, 128, 129, 256, 257, 4095, 4096, 4097];
 const LONG: [usize; 12] = [
@@ -14,14 +15,12 @@ const LONG: [usize; 12] = [
 pub fn run(library: &Library, seed: u64) -> Tally {
     let mut prng = Prng::new(seed);
     let mut check = Check::new(library);
-    for mode in [1, 2] {
-        for rounds in [4, 6] {
-            for (header_len, len) in lengths() {
-                let seal = Call::seal(&mut prng, mode, rounds, header_len, len);
-                seal_and_open(&mut prng, &mut check, seal);
-            }
-            short_parcels(&mut prng, &mut check, mode, rounds);
+    for (mode, rounds) in settings() {
+        for (header_len, len) in lengths() {
+            let seal = Call::seal(&mut prng, mode, rounds, header_len, len);
+            seal_and_open(&mut prng, &mut check, seal);
         }
+        short_parcels(&mut prng, &mut check, mode, rounds);
     }
     walks(&mut prng, &mut check);
     jumps(&mut prng, &mut check);
@@ -39,16 +38,25 @@ fn lengths() -> impl Iterator<Item = (usize, usize)> {
 }
 
 fn seal_and_open(prng: &mut Prng, check: &mut Check, mut seal: Call) {
-    let len = seal.inputs[3].len();
-    let mut parcel = Vec::new();
-    for output_len in [len + 31, len + 33, len + 100, len + 32] {
+    let message = seal.inputs[3].clone();
+    let len = message.len();
+    let allowed = seal.inputs[2].len() <= MAX_HEADER_LEN && len <= MAX_MESSAGE_LEN;
+    for output_len in [len + 31, len + 33, len + 100] {
         seal.output_len = output_len;
-        (_, parcel) = check.compare(&seal);
+        check.compare(&seal);
     }
+    seal.output_len = len + 32;
+    let (sealed, parcel) = check.compare(&seal);
     let mut open = seal.into_open(parcel, 0);
-    for output_len in [len.saturating_sub(1), len, len + 1, len + 100] {
+    for output_len in [len.saturating_sub(1), len + 1, len + 100] {
         open.output_len = output_len;
         check.compare(&open);
+    }
+    open.output_len = len;
+    let (opened, output) = check.compare(&open);
+    if allowed {
+        let back = (sealed, opened) == (len as u64 + 32, len as u64) && output == message;
+        check.record(back, || format!("{open}: the message does not come back"));
     }
     let at = prng.below(len + 32);
     open.inputs[3][at] ^= 4;
@@ -69,7 +77,7 @@ fn walks(prng: &mut Prng, check: &mut Check) {
         for output_len in [0, 127, 128, 129, 300] {
             let steps = prng.steps(len);
             let mut call = Call::walk(prng.bytes(128), steps, output_len);
-            check.compare(&call);
+            reaches(check, &call, len <= MAX_STEPS);
             for bad in [0, 7, 128, 255] {
                 if let Some(last) = call.inputs[1].last_mut() {
                     *last = bad;
@@ -80,6 +88,16 @@ fn walks(prng: &mut Prng, check: &mut Check) {
     }
     for start_len in [0, 1, 64, 127, 129, 256] {
         check.compare(&Call::walk(prng.bytes(start_len), vec![1], 128));
+    }
+}
+
+/// Compares a walk or a jump, which has to succeed where its list or count is `allowed` and its
+/// output long enough.
+fn reaches(check: &mut Check, call: &Call, allowed: bool) {
+    if allowed && call.output_len >= 128 {
+        check.answers(call, 128);
+    } else {
+        check.compare(call);
     }
 }
 
@@ -105,7 +123,8 @@ fn jumps(prng: &mut Prng, check: &mut Check) {
             for output_len in [127, 128, 200] {
                 let mut counts = [0; 3];
                 counts[kind] = count;
-                check.compare(&Call::jump(prng.bytes(128), counts, output_len));
+                let call = Call::jump(prng.bytes(128), counts, output_len);
+                reaches(check, &call, count.unsigned_abs() <= MAX_COUNT);
             }
         }
     }

@@ -3,9 +3,10 @@
 use crate::library::{refusal, Call, Entry, Library};
 use crate::prng::Prng;
 use crate::report::{Check, Tally};
+use reference::{settings, MRO, OPP, ROUNDS};
 
 /// A refusal's number and the change to a good call that gives its ground.
-type Ground = (u32, fn(&mut Call));
+pub type Ground = (u32, fn(&mut Call));
 
 /// The grounds of seal in the order of its checks.
 const SEAL: [Ground; 7] = [
@@ -49,26 +50,50 @@ const WALK: [Ground; 4] = [
 
 const JUMP: [Ground; 3] = [(10, bad_start), (11, bad_count), (7, no_output)];
 
-/// All sets of grounds of all entry points.
+/// The entry points and all their grounds.
+pub const ENTRIES: [(&str, &[&[Ground]]); 4] = [
+    ("seal", &[&SEAL]),
+    ("open", &[&OPEN, &OPEN_SHORT]),
+    ("walk", &[&WALK]),
+    ("jump", &[&JUMP]),
+];
+
+/// All sets of grounds of all entry points, and all round counts.
 pub fn run(library: &Library, seed: u64) -> Tally {
     let mut prng = Prng::new(seed);
     let mut check = Check::new(library);
-    for mode in [1, 2] {
-        let seal = Call::seal(&mut prng, mode, 4, 40, 70);
-        all_sets(&mut check, &SEAL, &seal);
-        let (_, parcel) = check.compare(&seal);
+    for (mode, rounds) in settings() {
+        let seal = Call::seal(&mut prng, mode, rounds, 40, 70);
+        all_sets(&mut check, &SEAL, &seal, 102);
+        let parcel = check.answers(&seal, 102);
         let open = seal.into_open(parcel, 102);
-        all_sets(&mut check, &OPEN, &open);
-        all_sets(&mut check, &OPEN_SHORT, &open);
+        all_sets(&mut check, &OPEN, &open, 70);
+        all_sets(&mut check, &OPEN_SHORT, &open, 70);
     }
+    round_counts(&mut prng, &mut check);
     let walk = Call::walk(prng.bytes(128), vec![1, 5, 6], 128);
-    all_sets(&mut check, &WALK, &walk);
+    all_sets(&mut check, &WALK, &walk, 128);
     let jump = Call::jump(prng.bytes(128), [1, -2, 3], 128);
-    all_sets(&mut check, &JUMP, &jump);
+    all_sets(&mut check, &JUMP, &jump, 128);
     check.tally
 }
 
-fn all_sets(check: &mut Check, grounds: &[Ground], good: &Call) {
+/// The library allows the counts that the second implementation does and no other, nor one that
+/// is cut to an allowed one.
+fn round_counts(prng: &mut Prng, check: &mut Check) {
+    let cut = |&rounds: &u32| [8, 16].map(|bits| rounds | 1 << bits);
+    let counts = (0..256).chain(ROUNDS.iter().flat_map(cut));
+    for rounds in counts.chain([u32::MAX]) {
+        for mode in [OPP, MRO] {
+            let seal = Call::seal(prng, mode, rounds, 3, 5);
+            let (_, parcel) = check.compare(&seal);
+            check.compare(&seal.into_open(parcel, 5));
+        }
+    }
+}
+
+/// Each set of `grounds` on the call `good`, which answers `done` where none is set.
+fn all_sets(check: &mut Check, grounds: &[Ground], good: &Call, done: u64) {
     for set in 0..1u32 << grounds.len() {
         let mut call = good.clone();
         let mut first = None;
@@ -78,15 +103,12 @@ fn all_sets(check: &mut Check, grounds: &[Ground], good: &Call) {
                 first = first.or(Some(*number));
             }
         }
-        let (answer, _) = check.compare(&call);
-        let passed = match first {
-            Some(12) => answer == refusal(12, 2),
-            Some(number) => answer == refusal(number, 0),
-            None => answer >> 32 == 0,
+        let wanted = match first {
+            Some(12) => refusal(12, 2),
+            Some(number) => refusal(number, 0),
+            None => done,
         };
-        check.record(passed, || {
-            format!("{call}: {answer:#x}, first ground {first:?}")
-        });
+        check.answers(&call, wanted);
     }
 }
 

@@ -8,7 +8,15 @@ type Walking = unsafe extern "C" fn(*const u8, usize, *const u8, usize, *mut u8,
 type Jumping = unsafe extern "C" fn(*const u8, usize, i32, i32, i32, *mut u8, usize) -> u64;
 
 /// A library under test.
-pub struct Library {
+pub enum Library {
+    /// One with the C interface.
+    Foreign(Functions),
+    /// The second implementation itself, to be held against answers that come from elsewhere.
+    Reference,
+}
+
+/// The four calls of the C interface.
+pub struct Functions {
     seal: Sealing,
     open: Sealing,
     walk: Walking,
@@ -16,21 +24,21 @@ pub struct Library {
 }
 
 /// The scalar C version.
-pub const BASELINE: Library = Library {
+pub const BASELINE: Library = Library::Foreign(Functions {
     seal: baseline::baseline_seal,
     open: baseline::baseline_open,
     walk: baseline::baseline_walk,
     jump: baseline::baseline_jump,
-};
+});
 
 /// The archive of the proved library, where this program is linked with it.
 #[cfg(feature = "archive")]
-pub const ARCHIVE: Option<Library> = Some(Library {
+pub const ARCHIVE: Option<Library> = Some(Library::Foreign(Functions {
     seal: calmbaize::ffi::calmbaize_seal,
     open: calmbaize::ffi::calmbaize_open,
     walk: calmbaize::ffi::calmbaize_walk,
     jump: calmbaize::ffi::calmbaize_jump,
-});
+}));
 #[cfg(not(feature = "archive"))]
 pub const ARCHIVE: Option<Library> = None;
 
@@ -45,6 +53,18 @@ pub enum Entry {
     Walk,
     /// Buffer: start.
     Jump { counts: [i32; 3] },
+}
+
+impl Entry {
+    /// The name of the call.
+    pub fn name(self) -> &'static str {
+        match self {
+            Self::Seal { .. } => "seal",
+            Self::Open { .. } => "open",
+            Self::Walk => "walk",
+            Self::Jump { .. } => "jump",
+        }
+    }
 }
 
 /// A call: an entry point, its input buffers and the length of its output.
@@ -121,6 +141,38 @@ impl fmt::Display for Call {
     }
 }
 
+impl Library {
+    /// Makes a call. Where `null` is set, empty buffers are passed as null pointers.
+    pub fn call(&self, entry: Entry, inputs: &[&[u8]], output: &mut [u8], null: bool) -> u64 {
+        let functions = match self {
+            Self::Foreign(functions) => functions,
+            Self::Reference => return expected(entry, inputs, output),
+        };
+        let at = |i: usize| pointer(inputs[i], null);
+        let len = |i: usize| inputs[i].len();
+        let (out, out_len) = (pointer_mut(output, null), output.len());
+        // SAFETY: each pointer is valid for its length or null with length 0, and `output` is
+        // borrowed mutably, so it overlaps none of the others.
+        let sealing = |f: Sealing, mode, rounds| unsafe {
+            let (key, nonce, header, input) = (at(0), at(1), at(2), at(3));
+            let [k, n, h, i] = [len(0), len(1), len(2), len(3)];
+            f(
+                mode, rounds, key, k, nonce, n, header, h, input, i, out, out_len,
+            )
+        };
+        match entry {
+            Entry::Seal { mode, rounds } => sealing(functions.seal, mode, rounds),
+            Entry::Open { mode, rounds } => sealing(functions.open, mode, rounds),
+            // SAFETY: as above.
+            Entry::Walk => unsafe { (functions.walk)(at(0), len(0), at(1), len(1), out, out_len) },
+            Entry::Jump { counts: [a, b, c] } => {
+                // SAFETY: as above.
+                unsafe { (functions.jump)(at(0), len(0), a, b, c, out, out_len) }
+            }
+        }
+    }
+}
+
 /// A null pointer for an empty buffer if `null` says so.
 fn pointer(buffer: &[u8], null: bool) -> *const u8 {
     if null && buffer.is_empty() {
@@ -130,48 +182,12 @@ fn pointer(buffer: &[u8], null: bool) -> *const u8 {
     }
 }
 
-impl Library {
-    /// Makes a call. Where `null` is set, empty buffers are passed as null pointers.
-    pub fn call(&self, entry: Entry, inputs: &[&[u8]], output: &mut [u8], null: bool) -> u64 {
-        let at = |i: usize| pointer(inputs[i], null);
-        let len = |i: usize| inputs[i].len();
-        let out_len = output.len();
-        let out = if null && output.is_empty() {
-            std::ptr::null_mut()
-        } else {
-            output.as_mut_ptr()
-        };
-        let sealing = |f: Sealing, mode, rounds| {
-            let (k, n, h, i) = (at(0), at(1), at(2), at(3));
-            // SAFETY: each pointer is valid for its length or null with length 0, and `output` is
-            // borrowed mutably, so it overlaps none of the others.
-            unsafe {
-                f(
-                    mode,
-                    rounds,
-                    k,
-                    len(0),
-                    n,
-                    len(1),
-                    h,
-                    len(2),
-                    i,
-                    len(3),
-                    out,
-                    out_len,
-                )
-            }
-        };
-        match entry {
-            Entry::Seal { mode, rounds } => sealing(self.seal, mode, rounds),
-            Entry::Open { mode, rounds } => sealing(self.open, mode, rounds),
-            // SAFETY: as above.
-            Entry::Walk => unsafe { (self.walk)(at(0), len(0), at(1), len(1), out, out_len) },
-            Entry::Jump { counts: [a, b, c] } => {
-                // SAFETY: as above.
-                unsafe { (self.jump)(at(0), len(0), a, b, c, out, out_len) }
-            }
-        }
+/// The same for a buffer that is written.
+fn pointer_mut(buffer: &mut [u8], null: bool) -> *mut u8 {
+    if null && buffer.is_empty() {
+        std::ptr::null_mut()
+    } else {
+        buffer.as_mut_ptr()
     }
 }
 

@@ -1,99 +1,78 @@
-//! Holds the proved library, or the scalar C version, against the second implementation.
+//! Holds the proved library, or the scalar C version, against the second implementation, and any
+//! of the three against answers written down.
 //!
 //! The last line is 'N passed, M failed', and the exit status is 1 where anything failed.
 
+mod case;
+mod child;
 mod damage;
 mod edges;
 mod grounds;
 mod guard;
+mod known;
 mod library;
 mod masks;
 mod maskwalk;
+mod options;
+mod pages;
 mod prng;
 mod random;
+mod replay;
 mod report;
-mod vectors;
+mod text;
 
 use library::{Library, ARCHIVE, BASELINE};
+use options::{Options, GUARD_CHILD, REPLAY_CHILD, USAGE};
 use prng::Prng;
 use report::Tally;
-use std::path::PathBuf;
 use std::process::ExitCode;
-use std::str::FromStr;
 use std::time::Instant;
 
-const USAGE: &str = "\
-usage: compare [OPTIONS] CHECK...
-
-checks:
-  vectors     known answers, and lengths at their limits
-  grounds     every set of grounds that hold at once
-  edges       lengths around the edges of blocks and limits
-  damage      parcels damaged in every way
-  masks       orders of steps, jumps, and the paper's polynomial
-  guard       every buffer at the edge of a page that can't be touched
-  random      random calls over all four entry points
-  all         all of the above
-  maskwalk    the program given by --maskwalk, on hundreds of inputs
-  permute     the permutation of the scalar C version, 0 to 12 rounds
-
-options:
-  --library archive|baseline   what is compared [archive]
-  --seed N                     seed of the random choices [1]
-  --calls N                    number of random calls [200000]
-  --maskwalk PATH              the program maskwalk";
-
-const ALL: [&str; 7] = [
-    "vectors", "grounds", "edges", "damage", "masks", "guard", "random",
-];
-
-struct Options {
-    library: String,
-    seed: u64,
-    calls: u64,
-    maskwalk: Option<PathBuf>,
-    checks: Vec<String>,
+fn main() -> ExitCode {
+    match options::parse(std::env::args().skip(1)).and_then(|options| run(&options)) {
+        Ok(status) => status,
+        Err(message) => {
+            eprintln!("compare: {message}\n\n{USAGE}");
+            ExitCode::from(2)
+        }
+    }
 }
 
-fn main() -> ExitCode {
-    let options = match parse(std::env::args().skip(1)) {
-        Ok(options) => options,
-        Err(message) => return usage(&message),
-    };
+fn run(options: &Options) -> Result<ExitCode, String> {
     let library = match options.library.as_str() {
+        "archive" => ARCHIVE.ok_or("built without the archive: use --library baseline")?,
         "baseline" => BASELINE,
-        "archive" => match ARCHIVE {
-            Some(library) => library,
-            None => return usage("built without the archive: use --library baseline"),
-        },
-        other => return usage(&format!("no library '{other}'")),
+        "reference" => Library::Reference,
+        other => return Err(format!("no library '{other}'")),
     };
-    if options.checks == ["guard-child"] {
-        guard::child(&library);
-        return ExitCode::SUCCESS;
+    match options.checks[0].as_str() {
+        GUARD_CHILD => guard::child(&library),
+        REPLAY_CHILD => replay::child(&library, &read(&options.files[0])?),
+        _ => return all_checks(&library, options),
     }
-    println!(
-        "{} against the second implementation, seed {}",
-        options.library, options.seed
-    );
-    let (mut passed, mut failed) = (0, 0);
+    Ok(ExitCode::SUCCESS)
+}
+
+fn all_checks(library: &Library, options: &Options) -> Result<ExitCode, String> {
+    println!("{}, seed {}", options.library, options.seed);
+    let mut total = Tally::default();
     for name in &options.checks {
         let begin = Instant::now();
-        let Some(tally) = run(name, &library, &options) else {
-            return usage(&format!("no check '{name}', or it needs an option"));
-        };
+        let mut tally = check(name, library, options)?;
+        if tally.passed + tally.failed == 0 {
+            tally.record(false, || "nothing was checked".into());
+        }
         println!("{name}: {} passed, {} failed", tally.passed, tally.failed);
         println!("  {:.1} s", begin.elapsed().as_secs_f64());
-        passed += tally.passed;
-        failed += tally.failed;
+        total.add(&tally);
     }
-    println!("{passed} passed, {failed} failed");
-    ExitCode::from(u8::from(failed > 0 || passed == 0))
+    println!("{} passed, {} failed", total.passed, total.failed);
+    Ok(ExitCode::from(u8::from(total.failed > 0)))
 }
 
-fn run(name: &str, library: &Library, options: &Options) -> Option<Tally> {
-    Some(match name {
-        "vectors" => vectors::run(library),
+fn check(name: &str, library: &Library, options: &Options) -> Result<Tally, String> {
+    Ok(match name {
+        "known" => known::run(library),
         "grounds" => grounds::run(library, options.seed),
         "edges" => edges::run(library, options.seed),
         "damage" => damage::run(library, options.seed),
@@ -101,9 +80,28 @@ fn run(name: &str, library: &Library, options: &Options) -> Option<Tally> {
         "guard" => guard::run(&options.library),
         "random" => random::run(library, options.seed, options.calls),
         "permute" => permute(options.seed),
-        "maskwalk" => maskwalk::run(options.maskwalk.as_deref()?, options.seed),
-        _ => return None,
+        "maskwalk" => {
+            let program = options.maskwalk.as_deref();
+            maskwalk::run(program.ok_or("maskwalk needs --maskwalk")?, options.seed)
+        }
+        "vectors" => vectors(options)?,
+        _ => return Err(format!("no check '{name}'")),
     })
+}
+
+/// Every file, one after the other.
+fn vectors(options: &Options) -> Result<Tally, String> {
+    let mut total = Tally::default();
+    for file in &options.files {
+        read(file)?;
+        println!("  {file}");
+        total.add(&replay::run(&options.library, file, options.known_only));
+    }
+    Ok(total)
+}
+
+fn read(file: &str) -> Result<String, String> {
+    std::fs::read_to_string(file).map_err(|error| format!("{file}: {error}"))
 }
 
 /// The one call of the scalar C version that the library does not have.
@@ -119,40 +117,4 @@ fn permute(seed: u64) -> Tally {
         tally.record(block == wanted, || format!("{rounds} rounds"));
     }
     tally
-}
-
-fn parse(mut args: impl Iterator<Item = String>) -> Result<Options, String> {
-    let mut options = Options {
-        library: "archive".into(),
-        seed: 1,
-        calls: 200_000,
-        maskwalk: None,
-        checks: Vec::new(),
-    };
-    while let Some(arg) = args.next() {
-        let mut value = || args.next().ok_or_else(|| format!("{arg} needs a value"));
-        match arg.as_str() {
-            "--library" => options.library = value()?,
-            "--seed" => options.seed = number(&value()?)?,
-            "--calls" => options.calls = number(&value()?)?,
-            "--maskwalk" => options.maskwalk = Some(value()?.into()),
-            "all" => options.checks.extend(ALL.map(String::from)),
-            option if option.starts_with('-') => return Err(format!("no option '{option}'")),
-            _ => options.checks.push(arg),
-        }
-    }
-    if options.checks.is_empty() {
-        return Err("no check named".into());
-    }
-    Ok(options)
-}
-
-fn number<T: FromStr>(text: &str) -> Result<T, String> {
-    text.parse()
-        .map_err(|_| format!("'{text}' is not a number"))
-}
-
-fn usage(message: &str) -> ExitCode {
-    eprintln!("compare: {message}\n\n{USAGE}");
-    ExitCode::from(2)
 }

@@ -18,10 +18,12 @@ pub fn run(library: &Library, seed: u64) -> Tally {
         let reached = walk(library, &start, &steps);
         let counts = net_counts(&steps);
         let jumped = block(library, Entry::Jump { counts }, &[&start]);
-        check.record(reached == jumped, || format!("the jump by {counts:?}"));
+        check.record(same(&reached, &jumped), || {
+            format!("the jump by {counts:?}")
+        });
         prng.shuffle(&mut steps);
         let again = walk(library, &start, &steps);
-        check.record(reached == again, || {
+        check.record(same(&reached, &again), || {
             format!("a list of {len} in another order")
         });
     }
@@ -35,23 +37,26 @@ pub fn run(library: &Library, seed: u64) -> Tally {
 fn polynomial(check: &mut Check, start: &[u8]) {
     let library = check.library;
     let zero = evaluate(start, |block| walk(library, block, &[1]));
-    check.record(zero == [0; 128], || "the polynomial under alpha".into());
-    let other = evaluate(start, with_two_rotations);
-    check.record(other != [0; 128], || {
+    check.record(zero == Ok(vec![0; 128]), || {
+        format!("the polynomial under alpha: {zero:x?}")
+    });
+    let other = evaluate(start, |block| Ok(with_two_rotations(block)));
+    check.record(other != Ok(vec![0; 128]), || {
         "the polynomial with two rotations".into()
     });
 }
 
-fn evaluate(start: &[u8], alpha: impl Fn(&[u8]) -> Vec<u8>) -> Vec<u8> {
+/// The polynomial in `alpha`, applied to `start`.
+fn evaluate(start: &[u8], alpha: impl Fn(&[u8]) -> Reached) -> Reached {
     let mut total = vec![0; 128];
     let mut power = start.to_vec();
     for exponent in 0..=1024 {
         if EXPONENTS.contains(&exponent) {
             total.iter_mut().zip(&power).for_each(|(t, p)| *t ^= p);
         }
-        power = alpha(&power);
+        power = alpha(&power)?;
     }
-    total
+    Ok(total)
 }
 
 fn with_two_rotations(block: &[u8]) -> Vec<u8> {
@@ -68,15 +73,22 @@ fn net_counts(steps: &[u8]) -> [i32; 3] {
     [1, 2, 3].map(|step| count(step) - count(step + 3))
 }
 
-fn walk(library: &Library, start: &[u8], steps: &[u8]) -> Vec<u8> {
+/// The block that a call writes, or its answer where that is another than 128.
+type Reached = Result<Vec<u8>, u64>;
+
+/// Both calls wrote a block, and the same one. Two refused calls agree on no mask.
+fn same(a: &Reached, b: &Reached) -> bool {
+    matches!((a, b), (Ok(a), Ok(b)) if a == b)
+}
+
+fn walk(library: &Library, start: &[u8], steps: &[u8]) -> Reached {
     block(library, Entry::Walk, &[start, steps])
 }
 
-/// The block a call writes, or nothing where it is refused.
-fn block(library: &Library, entry: Entry, inputs: &[&[u8]]) -> Vec<u8> {
+fn block(library: &Library, entry: Entry, inputs: &[&[u8]]) -> Reached {
     let mut output = vec![0; 128];
     match library.call(entry, inputs, &mut output, false) {
-        128 => output,
-        _ => Vec::new(),
+        128 => Ok(output),
+        answer => Err(answer),
     }
 }

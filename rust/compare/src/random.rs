@@ -1,31 +1,71 @@
 //! Random calls over all four entry points: long and short, valid, refused and damaged.
 
 use crate::damage;
+use crate::grounds::ENTRIES;
 use crate::library::{Call, Entry, Library};
 use crate::prng::Prng;
 use crate::report::{Check, Tally};
+use reference::{MRO, OPP, ROUNDS};
 use std::collections::BTreeMap;
 use std::time::Instant;
+
+/// Calls among which every refusal of every entry point is met: each is drawn some fifteen times in
+/// so many, so that one never met is a fault of the drawing or of the library.
+const ENOUGH: u64 = 3000;
+
+/// Calls by entry point and refusal, 0 for none.
+type Met = BTreeMap<(&'static str, u32), u64>;
 
 /// Compares `calls` random calls.
 pub fn run(library: &Library, seed: u64, calls: u64) -> Tally {
     let mut prng = Prng::new(seed);
     let mut check = Check::new(library);
-    let mut answers = BTreeMap::new();
+    let mut met = no_calls();
     let begin = Instant::now();
     for n in 1..=calls {
-        let (answer, _) = check.compare(&random_call(&mut prng));
-        *answers.entry(answer >> 32).or_insert(0u64) += 1;
+        let call = random_call(&mut prng);
+        let (answer, _) = check.compare(&call);
+        let number = (answer >> 32) as u32;
+        *met.entry((call.entry.name(), number)).or_default() += 1;
         if n % 50_000 == 0 {
             println!("  {n} calls, {:.0} s", begin.elapsed().as_secs_f64());
         }
     }
-    let counts: Vec<String> = answers
-        .iter()
-        .map(|(n, count)| format!("{n}: {count}"))
-        .collect();
-    println!("  calls by refusal, 0 for none: {}", counts.join(", "));
+    show(&met);
+    if calls < ENOUGH {
+        println!("  too few calls to meet every refusal: that takes {ENOUGH}");
+    } else {
+        all_met(&mut check, &met);
+    }
     check.tally
+}
+
+/// Every refusal that an entry point can give, met by no call yet.
+fn no_calls() -> Met {
+    let pairs = ENTRIES.into_iter().flat_map(|(name, grounds)| {
+        let numbers = grounds.concat().into_iter().map(|(number, _)| number);
+        [0].into_iter().chain(numbers).map(move |n| ((name, n), 0))
+    });
+    pairs.collect()
+}
+
+/// A line for each entry point.
+fn show(met: &Met) {
+    for (name, _) in ENTRIES {
+        let of_entry = met.iter().filter(|((entry, _), _)| *entry == name);
+        let counts = of_entry.map(|((_, number), count)| format!("{number}: {count}"));
+        let counts: Vec<String> = counts.collect();
+        println!("  {name} by refusal, 0 for none: {}", counts.join(", "));
+    }
+}
+
+/// Counts a refusal that no call met as failed.
+fn all_met(check: &mut Check, met: &Met) {
+    for ((name, number), count) in met {
+        check.record(*count > 0, || {
+            format!("{name}: no call met refusal {number}")
+        });
+    }
 }
 
 fn random_call(prng: &mut Prng) -> Call {
@@ -72,10 +112,11 @@ fn random_open(prng: &mut Prng) -> Call {
 }
 
 fn random_walk(prng: &mut Prng) -> Call {
-    let mut len = prng.below(40);
-    if prng.once_in(20) {
-        len = length(prng, 4096);
-    }
+    let len = match prng.below(20) {
+        0 => length(prng, 4096),
+        1 => 4097 + prng.below(3),
+        _ => prng.below(40),
+    };
     let mut steps = prng.steps(len);
     if len > 0 && prng.once_in(5) {
         for _ in 0..=prng.below(2) {
@@ -92,17 +133,18 @@ fn random_jump(prng: &mut Prng) -> Call {
     for count in &mut counts {
         // Mostly short ones: the library takes a jump step by step.
         let bits = if prng.once_in(50) { 17 } else { prng.below(9) };
-        *count = prng.below((1 << bits) + 1) as i32 - (1 << bits) / 2;
-        if prng.once_in(100) {
-            *count = prng.pick(&[65_536, -65_536, 65_537, -65_537, i32::MAX, i32::MIN]);
-        }
+        *count = match prng.below(150) {
+            0 => prng.pick(&[65_536, -65_536]),
+            1..=4 => prng.pick(&[65_537, -65_537, i32::MAX, i32::MIN]),
+            _ => prng.below((1 << bits) + 1) as i32 - (1 << bits) / 2,
+        };
     }
     let start = exact_length_bytes(prng, 128);
     Call::jump(start, counts, output_length(prng, 128))
 }
 
 fn random_settings(prng: &mut Prng) -> (u32, u32) {
-    let (mut mode, mut rounds) = (prng.pick(&[1, 2]), prng.pick(&[4, 6]));
+    let (mut mode, mut rounds) = (prng.pick(&[OPP, MRO]), prng.pick(ROUNDS));
     if prng.once_in(40) {
         mode = prng.pick(&[0, 3, 256, 257, 1 << 31, u32::MAX]);
     }
@@ -114,7 +156,7 @@ fn random_settings(prng: &mut Prng) -> (u32, u32) {
 
 /// `len` bytes, now and then one more or less, or none.
 fn exact_length_bytes(prng: &mut Prng, len: usize) -> Vec<u8> {
-    let len = if prng.once_in(40) {
+    let len = if prng.once_in(20) {
         prng.pick(&[0, 1, len - 1, len + 1, 2 * len])
     } else {
         len
@@ -129,11 +171,12 @@ fn exact_length_bytes(prng: &mut Prng, len: usize) -> Vec<u8> {
 fn length(prng: &mut Prng, max: usize) -> usize {
     match prng.below(100) {
         0..=49 => prng.below(300),
-        50..=84 => (128 * prng.below(9) + prng.below(3)).saturating_sub(1),
-        85..=94 => prng.below(max.min(4096) + 1),
-        95..=96 => prng.below(max + 1),
-        97 => 128 * prng.below(max / 128 + 1),
-        _ => max - 1 + prng.below(3),
+        50..=82 => (128 * prng.below(9) + prng.below(3)).saturating_sub(1),
+        83..=92 => prng.below(max.min(4096) + 1),
+        93..=94 => prng.below(max + 1),
+        95 => 128 * prng.below(max / 128 + 1),
+        96 => max - prng.below(2),
+        _ => max + 1 + prng.below(2),
     }
 }
 

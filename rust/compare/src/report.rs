@@ -5,7 +5,7 @@ use crate::library::{expected, Call, Library};
 /// Bytes watched on both sides of an output.
 const MARGIN: usize = 64;
 /// Failures shown of one check.
-const SHOWN: u64 = 5;
+const SHOWN: u64 = 10;
 
 /// What passed and what failed.
 #[derive(Default)]
@@ -26,6 +26,12 @@ impl Tally {
             println!("  failed: {}", failure());
         }
     }
+
+    /// Adds what another counted.
+    pub fn add(&mut self, other: &Self) {
+        self.passed += other.passed;
+        self.failed += other.failed;
+    }
 }
 
 /// One check of a library.
@@ -44,6 +50,16 @@ impl<'a> Check<'a> {
     /// Counts one result; `failure` describes it where it failed.
     pub fn record(&mut self, passed: bool, failure: impl FnOnce() -> String) {
         self.tally.record(passed, failure);
+    }
+
+    /// Compares `call` and counts whether it answers `wanted`, which a call that both sides refuse
+    /// does not. Returns the output.
+    pub fn answers(&mut self, call: &Call, wanted: u64) -> Vec<u8> {
+        let (answer, output) = self.compare(call);
+        self.record(answer == wanted, || {
+            format!("{call}: answer {answer:#x}, to be {wanted:#x}")
+        });
+        output
     }
 
     /// Makes `call` and compares the answer and every byte with the second implementation. Returns

@@ -21,6 +21,12 @@ pub use permutation::{permute, unpermute};
 
 use mode::Cipher;
 
+/// The mode OPP.
+pub const OPP: u32 = 1;
+/// The mode MRO.
+pub const MRO: u32 = 2;
+/// The round counts that seal and open take.
+pub const ROUNDS: &[u32] = &[4, 6];
 /// Bytes of a key.
 pub const KEY_LEN: usize = 32;
 /// Bytes of a nonce.
@@ -36,6 +42,13 @@ pub const MAX_COUNT: u32 = 65_536;
 
 /// The number of a refusal and its place.
 pub type Refusal = (u32, u32);
+
+/// Every mode with every round count.
+pub fn settings() -> impl Iterator<Item = (u32, u32)> {
+    [OPP, MRO]
+        .into_iter()
+        .flat_map(|mode| ROUNDS.iter().map(move |&rounds| (mode, rounds)))
+}
 
 /// Seals `message` into `output`.
 pub fn seal(
@@ -54,7 +67,7 @@ pub fn seal(
         (output.len() < parcel_len, 7),
     ])?;
     let cipher = Cipher::new(rounds, key, nonce);
-    let parcel = if mode == 1 {
+    let parcel = if mode == OPP {
         [cipher.opp_encrypt(message), cipher.opp_tag(header, message)].concat()
     } else {
         let tag = cipher.mro_tag(header, message);
@@ -81,7 +94,7 @@ pub fn open(
     ])?;
     let (ciphertext, tag) = parcel.split_at(parcel.len() - TAG_LEN);
     let cipher = Cipher::new(rounds, key, nonce);
-    let (message, expected) = if mode == 1 {
+    let (message, expected) = if mode == OPP {
         let message = cipher.opp_decrypt(ciphertext);
         let expected = cipher.opp_tag(header, &message);
         (message, expected)
@@ -137,8 +150,8 @@ fn check_settings(
     header: &[u8],
 ) -> Result<(), Refusal> {
     check(&[
-        (!matches!(mode, 1 | 2), 1),
-        (!matches!(rounds, 4 | 6), 2),
+        (!matches!(mode, OPP | MRO), 1),
+        (!ROUNDS.contains(&rounds), 2),
         (key.len() != KEY_LEN, 3),
         (nonce.len() != NONCE_LEN, 4),
         (header.len() > MAX_HEADER_LEN, 5),

@@ -116,7 +116,7 @@ mod tests {
     #[test]
     fn undone() {
         let block: Block = std::array::from_fn(|i| 0x0123_4567_89ab_cdef << i);
-        for rounds in [1, 4, 6, 12] {
+        for rounds in 1..=12 {
             assert_eq!(unpermute(rounds, &permute(rounds, &block)), block);
             assert_eq!(permute(rounds, &unpermute(rounds, &block)), block);
         }

@@ -1,46 +1,41 @@
 //! Known answers of the four entry points. Those of single steps are tested beside the code.
 
-use reference::{jump, open, seal, walk, Refusal};
+use reference::{jump, open, seal, settings, walk, Refusal, OPP, ROUNDS};
 
-const OPP: u32 = 1;
-const MRO: u32 = 2;
-const KEY: [u8; 32] = [0; 32];
-const NONCE: [u8; 16] = [0; 16];
+/// A key and a nonce of zeros make every mask zero.
+const ZERO: ([u8; 32], [u8; 16]) = ([0; 32], [0; 16]);
+const KEY: [u8; 32] = [0x42; 32];
+const NONCE: [u8; 16] = [0x24; 16];
 
-fn sealed(mode: u32, header: &[u8], message: &[u8]) -> Vec<u8> {
+fn sealed(mode: u32, rounds: u32, header: &[u8], message: &[u8]) -> Vec<u8> {
     let mut parcel = vec![0xaa; message.len() + 32];
-    let answer = seal(mode, 4, &KEY, &NONCE, header, message, &mut parcel);
+    let answer = seal(mode, rounds, &KEY, &NONCE, header, message, &mut parcel);
     assert_eq!(answer, Ok(parcel.len()));
     parcel
 }
 
 fn seal_answer(header_len: usize, message_len: usize, output_len: usize) -> Result<usize, Refusal> {
     let (header, message) = (vec![3; header_len], vec![5; message_len]);
-    seal(
-        OPP,
-        6,
-        &KEY,
-        &NONCE,
-        &header,
-        &message,
-        &mut vec![0; output_len],
-    )
+    let mut output = vec![0; output_len];
+    seal(OPP, ROUNDS[0], &KEY, &NONCE, &header, &message, &mut output)
 }
 
 #[test]
 fn p10_the_tag_of_nothing_is_zero() {
-    for rounds in [4, 6] {
-        for mode in [OPP, MRO] {
-            let mut parcel = [0xaa; 32];
-            let answer = seal(mode, rounds, &KEY, &NONCE, &[], &[], &mut parcel);
-            assert_eq!((answer, parcel), (Ok(32), [0; 32]));
-        }
+    for (mode, rounds) in settings() {
+        let mut parcel = [0xaa; 32];
+        let answer = seal(mode, rounds, &ZERO.0, &ZERO.1, &[], &[], &mut parcel);
+        assert_eq!((answer, parcel), (Ok(32), [0; 32]));
     }
 }
 
 #[test]
 fn p11_a_zero_block_under_opp() {
-    assert_eq!(sealed(OPP, &[], &[0; 128]), [0; 160]);
+    for &rounds in ROUNDS {
+        let mut parcel = [0xaa; 160];
+        let answer = seal(OPP, rounds, &ZERO.0, &ZERO.1, &[], &[0; 128], &mut parcel);
+        assert_eq!((answer, parcel), (Ok(160), [0; 160]));
+    }
 }
 
 #[test]
@@ -60,7 +55,7 @@ fn lengths_at_their_limits() {
 
 #[test]
 fn short_parcels() {
-    let answer = |parcel: &[u8]| open(OPP, 4, &KEY, &NONCE, &[], parcel, &mut []);
+    let answer = |parcel: &[u8]| open(OPP, ROUNDS[0], &ZERO.0, &ZERO.1, &[], parcel, &mut []);
     assert_eq!(answer(&[0; 31]), Err((8, 0)));
     assert_eq!(answer(&[0; 32]), Ok(0));
     assert_eq!(answer(&[1; 32]), Err((9, 0)));
@@ -99,11 +94,11 @@ fn order_of_the_checks_of_walk_and_jump() {
 
 #[test]
 fn a_differing_tag_clears_the_message_and_nothing_else() {
-    for mode in [OPP, MRO] {
-        let mut parcel = sealed(mode, b"header", &[5; 200]);
+    for (mode, rounds) in settings() {
+        let mut parcel = sealed(mode, rounds, b"header", &[5; 200]);
         parcel[231] ^= 0x80;
         let mut output = [0xaa; 210];
-        let answer = open(mode, 4, &KEY, &NONCE, b"header", &parcel, &mut output);
+        let answer = open(mode, rounds, &KEY, &NONCE, b"header", &parcel, &mut output);
         assert_eq!(answer, Err((9, 0)));
         assert_eq!(output[..200], [0; 200]);
         assert_eq!(output[200..], [0xaa; 10]);
@@ -112,13 +107,13 @@ fn a_differing_tag_clears_the_message_and_nothing_else() {
 
 #[test]
 fn what_is_sealed_opens() {
-    for mode in [OPP, MRO] {
+    for (mode, rounds) in settings() {
         for len in [0, 1, 127, 128, 129, 255, 256, 257, 1000] {
             let message: Vec<u8> = (0..len).map(|i| (i * 7 + 1) as u8).collect();
-            let parcel = sealed(mode, &message[len / 2..], &message);
+            let parcel = sealed(mode, rounds, &message[len / 2..], &message);
             let mut output = vec![0xaa; len + 3];
             let header = &message[len / 2..];
-            let answer = open(mode, 4, &KEY, &NONCE, header, &parcel, &mut output);
+            let answer = open(mode, rounds, &KEY, &NONCE, header, &parcel, &mut output);
             assert_eq!(answer, Ok(len));
             assert_eq!(output, [&message[..], &[0xaa; 3]].concat());
         }
@@ -127,11 +122,6 @@ fn what_is_sealed_opens() {
 
 #[test]
 fn dropping_a_final_zero_block_changes_the_tag() {
-    let key = [1; 32];
-    let tag = |message: &[u8]| {
-        let mut parcel = vec![0; message.len() + 32];
-        seal(OPP, 4, &key, &NONCE, &[], message, &mut parcel).expect("sealed");
-        parcel.split_off(message.len())
-    };
+    let tag = |message: &[u8]| sealed(OPP, ROUNDS[0], &[], message).split_off(message.len());
     assert_ne!(tag(&[0; 256]), tag(&[0; 128]));
 }

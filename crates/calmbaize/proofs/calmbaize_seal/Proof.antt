@@ -3,6 +3,7 @@ use mathlib.Core.Path.{ap}
 use Prim.Native.Nat.{_^_}
 use Rattle.answers.specs.Answers.{coded}
 use Rattle.answers.proofs.Values.{answered-lt}
+use Rattle.sealing.specs.Sealing.{sealCall}
 use Rattle.sealing.proofs.Answered.{seal-small}
 use borrow.Author.Needs.{needs}
 use Rattle.calmbaize.proofs.calmbaize_seal.Statement.{statement}
@@ -12,7 +13,8 @@ seal-requires : tie.Need-seal-requires
 seal-requires c κs = search needs
 
 code-requires : tie.Need-code-requires
-code-requires c κs = answered-lt (2 ^ 32) (c .before .before .seal .ensures) (seal-small _ _ _ _ _ _ _)
+unfolding sealCall
+code-requires c κs = answered-lt (2 ^ 32) (c .before .before .seal .ensures) (seal-small _ _ _ _ _ _ _ _)
 
 same-length : tie.Need-same-length
 same-length c = search needs

@@ -8,7 +8,7 @@ use lib.Seq.{length-take-le}
 use denote.Ref.{now}
 use Rattle.words.specs.Block.{Block, Bytes}
 use Rattle.words.proofs.Blocks.{bytes-take}
-use Rattle.masks.proofs.Arrays.{array-block}
+use Rattle.words.proofs.Arrays.{array-block}
 use Rattle.mem.specs.Mem.{D}
 use Rattle.blockplan.specs.Parcel.{messageOf, cipherPart}
 use Rattle.blockplan.specs.Pass.{under, planned}

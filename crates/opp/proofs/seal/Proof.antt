@@ -2,7 +2,7 @@
 use denote.Ref.{now}
 use mathlib.Core.Bool.{false}
 use Rattle.words.specs.Block.{Block, Bytes}
-use Rattle.masks.proofs.Arrays.{array-block}
+use Rattle.words.proofs.Arrays.{array-block}
 use Rattle.blockplan.proofs.Parcels.{sealed-as}
 use Rattle.mem.specs.Mem.{E}
 use Rattle.blockplan.specs.Pass.{under, planned}

@@ -1,93 +1,57 @@
--- Each return is one check of the definition, in its order. Assumes nothing.
-use borrow.Author.Tests.{eq-eqb, ne-eqb, lt-ltb, le-ltb}
-use mathlib.Core.Path.{_≡_, sym, _∙_}
-use Rattle.answers.specs.Answers.{numberOf, refuse}
-use Rattle.settings.specs.Settings.{isRefusal}
-use Rattle.sealing.specs.Sealing.{openCall, verdict}
+-- What the checks find is refused; where they are clear, the parcel is opened, and its verdict answered. Assumes nothing.
+use mathlib.Core.Path.{_∙_, sym}
+use native.Mathlib.Omega.{arith}
+use Rattle.answers.proofs.Values.{refused, allowed}
+use Rattle.checks.proofs.Clears.{open-clear}
+use Rattle.sealing.specs.Sealing.{openFrom, openCall}
+use Rattle.sealing.proofs.Answered.{done-where, nine-where}
 use borrow.Author.Needs.{needs}
 use Rattle.sealing.proofs.open.Statement.{statement}
 use Rattle.sealing.proofs.open.Tie as tie
 
-settings-requires : tie.Need-settings-requires
-settings-requires c κs = search needs
+check-open-requires : tie.Need-check-open-requires
+check-open-requires c κs = search needs
 
-number-requires : tie.Need-number-requires
-number-requires c κs = search needs
+enum-known-found : tie.Need-enum-known-found
+enum-known-found c = search needs
 
 returns : tie.Need-returns
-unfolding openCall refuse isRefusal
-returns c =
-    let e = c .before .before .settings .ensures .0 in
-    simp (← e, ne-eqb (numberOf (c .before .before .settings .result)) 0 (λ q. c .if1 .taken (c .before .number .ensures ∙ q)))
+unfolding openCall openFrom
+returns c = refused _ _ _ _ (c .before .before .before .check-open .ensures) (c .before .found .given .1)
 
-returns-2 : tie.Need-returns-2
-unfolding openCall refuse isRefusal
-returns-2 c =
-    let e = c .before .before .before .settings .ensures .0 in
-    let z : numberOf (c .before .before .before .settings .result) ≡ 0 = sym (c .before .before .number .ensures) ∙ c .before .if1 .left in
-    simp (← e, eq-eqb (numberOf (c .before .before .before .settings .result)) 0 z, lt-ltb _ _ (c .if2 .taken))
-
-add-if3 : tie.Need-add-if3
-add-if3 c = search needs
-
-returns-3 : tie.Need-returns-3
-unfolding openCall refuse isRefusal
-returns-3 c =
-    let e = c .before .before .before .before .settings .ensures .0 in
-    let z : numberOf (c .before .before .before .before .settings .result) ≡ 0 = sym (c .before .before .before .number .ensures) ∙ c .before .before .if1 .left in
-    simp (← e, eq-eqb (numberOf (c .before .before .before .before .settings .result)) 0 z, le-ltb _ _ (c .before .if2 .left), lt-ltb _ _ (c .if3 .taken))
+enum-told : tie.Need-enum-told
+enum-told c = search needs
 
 sub-written : tie.Need-sub-written
-sub-written c = search needs
-
-returns-4 : tie.Need-returns-4
-unfolding openCall refuse isRefusal
-returns-4 c =
-    let e = c .before .before .before .before .before .settings .ensures .0 in
-    let z : numberOf (c .before .before .before .before .before .settings .result) ≡ 0 = sym (c .before .before .before .before .number .ensures) ∙ c .before .before .before .if1 .left in
-    simp (← e, eq-eqb (numberOf (c .before .before .before .before .before .settings .result)) 0 z, le-ltb _ _ (c .before .before .if2 .left), le-ltb _ _ (c .before .if3 .left), lt-ltb _ _ (c .if4 .taken))
+sub-written c = omega (arith, open-clear _ _ _ _ _ _ _ (sym (c .before .before .check-open .ensures) ∙ c .enum-told .given .1) .1 .0 .0)
 
 start-requires : tie.Need-start-requires
-start-requires c κs = c .before .before .before .before .before .settings .ensures .1 (sym (c .before .before .before .before .number .ensures) ∙ c .before .before .before .if1 .left)
+start-requires c κs = open-clear _ _ _ _ _ _ _ (sym (c .before .before .check-open .ensures) ∙ c .enum-told .given .1) .0
 
-open-under-requires : tie.Need-open-under-requires
-open-under-requires c κs = search needs
+open-requires : tie.Need-open-requires
+open-requires c κs =
+    let h = open-clear _ _ _ _ _ _ _ (sym (c .before .before .before .before .check-open .ensures) ∙ c .before .before .enum-told .given .1) .1 in
+    (h .0 .0, omega (arith, h .1))
 
 same-length : tie.Need-same-length
 same-length c = search needs
 
-returns-5 : tie.Need-returns-5
-unfolding openCall refuse isRefusal verdict
-returns-5 c =
-    let e = c .before .before .before .before .before .before .before .before .before .before .before .settings .ensures .0 in
-    let z : numberOf (c .before .before .before .before .before .before .before .before .before .before .before .settings .result) ≡ 0 = sym (c .before .before .before .before .before .before .before .before .before .before .number .ensures) ∙ c .before .before .before .before .before .before .before .before .before .if1 .left in
-    simp (← e, eq-eqb (numberOf (c .before .before .before .before .before .before .before .before .before .before .before .settings .result)) 0 z, le-ltb _ _ (c .before .before .before .before .before .before .before .before .if2 .left), le-ltb _ _ (c .before .before .before .before .before .before .before .if3 .left), le-ltb _ _ (c .before .before .before .before .before .before .if4 .left), ← (rw (c .before .before .before .before .before .start .ensures) at (c .before .before .before .open-under .ensures)), c .if5 .taken)
+returns-2 : tie.Need-returns-2
+unfolding openCall openFrom
+returns-2 c =
+    done-where _ (rw (c .before .before .before .before .before .start .ensures) at (c .before .before .before .«open» .ensures)) (c .if1 .taken)
+    ∙ allowed _ _ (c .before .before .before .before .before .before .before .before .check-open .ensures) (c .before .before .before .before .before .before .enum-told .given .1)
 
 same-length-2 : tie.Need-same-length-2
 same-length-2 c = search needs
 
-returns-6 : tie.Need-returns-6
-unfolding openCall refuse isRefusal verdict
-returns-6 c =
-    let e = c .before .before .before .before .before .before .before .before .before .before .before .settings .ensures .0 in
-    let z : numberOf (c .before .before .before .before .before .before .before .before .before .before .before .settings .result) ≡ 0 = sym (c .before .before .before .before .before .before .before .before .before .before .number .ensures) ∙ c .before .before .before .before .before .before .before .before .before .if1 .left in
-    simp (← e, eq-eqb (numberOf (c .before .before .before .before .before .before .before .before .before .before .before .settings .result)) 0 z, le-ltb _ _ (c .before .before .before .before .before .before .before .before .if2 .left), le-ltb _ _ (c .before .before .before .before .before .before .before .if3 .left), le-ltb _ _ (c .before .before .before .before .before .before .if4 .left), ← (rw (c .before .before .before .before .before .start .ensures) at (c .before .before .before .open-under .ensures)), c .if5 .left)
+returns-3 : tie.Need-returns-3
+unfolding openCall openFrom
+returns-3 c =
+    nine-where _ (rw (c .before .before .before .before .before .start .ensures) at (c .before .before .before .«open» .ensures)) (c .if1 .left)
+    ∙ allowed _ _ (c .before .before .before .before .before .before .before .before .check-open .ensures) (c .before .before .before .before .before .before .enum-told .given .1)
 
 pub open-spec : {M : Type 1} → statement M
 open-spec =
     tie.close
-    (tie.spec
-    settings-requires
-    number-requires
-    returns
-    returns-2
-    add-if3
-    returns-3
-    sub-written
-    returns-4
-    start-requires
-    open-under-requires
-    same-length
-    returns-5
-    same-length-2
-    returns-6)
+    (tie.spec check-open-requires enum-known-found returns enum-told sub-written start-requires open-requires same-length returns-2 same-length-2 returns-3)

@@ -1,10 +1,16 @@
 -- The calls in turn give the definition, and back-meets says the rest. Assumes nothing.
-use Rattle.masks.specs.Steps.{beta}
+use mathlib.Core.Path.{_≡_, ap}
+use mathlib.Core.List.{List}
+use Prim.Native.Nat.{ℕ}
+use lib.ListN.{getD}
+use lib.Bits.{bitXor}
+use Rattle.words.specs.Sequence.{tab}
+use Rattle.words.specs.Word.{shl}
+use Rattle.words.proofs.Arrays.{array-block}
 use Rattle.back_steps.specs.Tables.{betaTable}
-use Rattle.back_steps.specs.BackSteps.{betaWord, backBeta}
-use Rattle.back_steps.proofs.Laws.{back-meets, beta-step}
-use Rattle.masks.proofs.Arrays.{array-block}
-use Rattle.back_steps.proofs.Arrays.{beta-side-is}
+use Rattle.back_steps.specs.BackSteps.{betaRun, betaSide, betaWord, backBeta}
+use Rattle.back_steps.proofs.Undoing.{beta-undo}
+use Rattle.back_steps.proofs.Laws.{back-meets}
 use borrow.Author.Needs.{needs}
 use Rattle.back_steps.proofs.back.back_beta.Statement.{statement}
 use Rattle.back_steps.proofs.back.back_beta.Tie as tie
@@ -33,13 +39,18 @@ choose-requires c κs = search needs
 beta-run-requires-2 : tie.Need-beta-run-requires-2
 beta-run-requires-2 c κs = search needs
 
+-- what is solved for, from the run that starts with zero
+side-is : (b p : List ℕ) → p ≡ tab (betaRun b 0) 16 → bitXor (bitXor (getD p 15 0) (getD b 15 0)) (shl 13 (getD p 5 0)) ≡ betaSide b
+unfolding betaSide betaRun tab
+side-is b p e = ap (λ (t : List ℕ). bitXor (bitXor (getD t 15 0) (getD b 15 0)) (shl 13 (getD t 5 0))) e
+
 returns : tie.Need-returns
 unfolding backBeta betaWord betaTable
 returns c =
     let start = c .before .before .before .before .before in
     let s = start .args .t1 in
-    let side = beta-side-is s _ (c .before .before .before .before .beta-run .ensures) in
-    back-meets beta backBeta beta-step s _ (array-block _ _ (start .good .0))
+    let side = side-is s _ (c .before .before .before .before .beta-run .ensures) in
+    back-meets beta-undo s _ (array-block _ _ (start .good .0))
     (rw (c .beta-run2 .ensures, c .before .choose .ensures, c .before .before .before .shift-left .ensures, side))
 
 pub back-beta-spec : {M : Type 1} → statement M

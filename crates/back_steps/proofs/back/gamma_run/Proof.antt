@@ -1,10 +1,8 @@
 -- The loop's invariant: the first i words are in, and u and v are the next two. Assumes nothing.
 use mathlib.Core.Path.{_≡_, refl}
-use Prim.Native.Nat.{_+_, _≤_, _-_}
+use Prim.Native.Nat.{_+_, _-_}
 use native.Mathlib.Omega.{arith}
-use lib.ListN.{length, take, length-set}
-use Rattle.words.specs.Sequence.{tab}
-use Rattle.words.proofs.Lists.{stored, filled}
+use Rattle.words.proofs.Loops.{Filling, filling-none, filling-more, filling-done}
 use Rattle.back_steps.specs.BackSteps.{gammaRun}
 use Rattle.back_steps.proofs.Undoing.{gamma-after}
 use borrow.Author.Needs.{needs}
@@ -13,14 +11,14 @@ use Rattle.back_steps.proofs.back.gamma_run.Tie as tie
 
 abbrev Inv-loop : tie.InvT-loop
 Inv-loop x y b r₀ u₀ v₀ i₀ r u v i =
-    (i ≤ 16) × ((length r ≡ 16) × ((take i r ≡ tab (gammaRun b x y) i) × ((u ≡ gammaRun b x y i) × (v ≡ gammaRun b x y (i + 1)))))
+    Filling (gammaRun b x y) 16 r i × ((u ≡ gammaRun b x y i) × (v ≡ gammaRun b x y (i + 1)))
 
 abbrev μ-loop : tie.MeasureT-loop
 μ-loop x y b r₀ u₀ v₀ i₀ r u v i = 16 - i
 
 loop-holds : tie.Need-loop-holds Inv-loop μ-loop
-unfolding gammaRun tab
-loop-holds c = (search needs, (search needs, (refl, (refl, refl))))
+unfolding gammaRun
+loop-holds c = (filling-none _ (search needs), (refl, refl))
 
 mul-r : tie.Need-mul-r Inv-loop μ-loop
 mul-r c = search needs
@@ -42,20 +40,11 @@ loop-less c = search needs
 
 loop-again : tie.Need-loop-again Inv-loop μ-loop
 loop-again c =
-    let inv = c .before .loop .inv in
-    let i = c .before .loop .i in (
-      omega arith,
-      (
-        simp length-set (inv .1 .0),
-        (stored _ i _ _ (omega arith) (inv .1 .1 .0) (inv .1 .1 .1 .0), (inv .1 .1 .1 .1, gamma-after _ _ _ i _ _ (inv .1 .1 .1 .0) (inv .1 .1 .1 .1))),
-      ),
-    )
+    let at = c .before .loop in
+    (filling-more (at .inv .0) (omega arith) (at .inv .1 .0), (at .inv .1 .1, gamma-after _ _ _ (at .i) _ _ (at .inv .1 .0) (at .inv .1 .1)))
 
 returns : tie.Need-returns Inv-loop μ-loop
-returns c =
-    let inv = c .before .loop .inv in
-    let e : c .before .loop .i ≡ 16 = omega arith in
-    filled _ 16 _ (inv .1 .0) (rw e at (inv .1 .1 .0))
+returns c = filling-done (c .before .loop .inv .0) (omega arith)
 
 pub gamma-run-spec : {M : Type 1} → statement M
 gamma-run-spec =

@@ -1,7 +1,13 @@
 -- A literal of sixteen words is the definition's list. Assumes nothing.
+use mathlib.Core.Path.{_≡_, ap}
+use mathlib.Core.List.{List, [], _∷_, _++_}
+use Prim.Native.Nat.{ℕ}
+use lib.ListN.{getD, drop}
+use Rattle.words.specs.Sequence.{tab}
 use Rattle.words.specs.Block.{Block}
-use Rattle.masks.specs.Steps.{alphaW}
-use Rattle.masks.proofs.Arrays.{array-block, alpha-words}
+use Rattle.words.proofs.Blocks.{block-is}
+use Rattle.words.proofs.Arrays.{array-block}
+use Rattle.masks.specs.Steps.{alpha, alphaW}
 use borrow.Author.Needs.{needs}
 use Rattle.masks.proofs.steps.alpha.Statement.{statement}
 use Rattle.masks.proofs.steps.alpha.Tie as tie
@@ -62,6 +68,12 @@ array-read-t49 c = search needs
 
 array-read-t52 : tie.Need-array-read-t52
 array-read-t52 c = search needs
+
+-- fifteen words and the new one
+alpha-words : (s : List ℕ) → Block s
+    → alpha s ≡ getD s 1 0 ∷ getD s 2 0 ∷ getD s 3 0 ∷ getD s 4 0 ∷ getD s 5 0 ∷ getD s 6 0 ∷ getD s 7 0 ∷ getD s 8 0 ∷ getD s 9 0 ∷ getD s 10 0 ∷ getD s 11 0 ∷ getD s 12 0 ∷ getD s 13 0 ∷ getD s 14 0 ∷ getD s 15 0 ∷ alphaW (getD s 0 0) (getD s 5 0) ∷ []
+unfolding alpha tab
+alpha-words s b = ap (λ (t : List ℕ). drop 1 t ++ (alphaW (getD s 0 0) (getD s 5 0) ∷ [])) (block-is s b)
 
 returns : tie.Need-returns
 unfolding alphaW

@@ -1,5 +1,5 @@
 -- The four words and the count are the counter's block. Assumes nothing.
-use Rattle.masks.proofs.Arrays.{array-block}
+use Rattle.words.proofs.Arrays.{array-block}
 use Rattle.mro.proofs.Streams.{counter-words}
 use borrow.Author.Needs.{needs}
 use Rattle.mro.proofs.stream.stream_block.Statement.{statement}

@@ -5,7 +5,7 @@ use Prim.Native.Nat.{ℕ}
 use Rattle.words.specs.Sequence.{tab, zeros, times}
 use Rattle.words.specs.Block.{xorBlock}
 use Rattle.masks.specs.Steps.{beta}
-use Rattle.masks.proofs.Arrays.{array-block}
+use Rattle.words.proofs.Arrays.{array-block}
 use Rattle.mem.specs.Mem.{maskAt, encipher, E}
 use Rattle.mro.specs.Mro.{lengths}
 use Rattle.mro.proofs.Absorbed.{sum-is}

@@ -6,7 +6,7 @@ use lib.ListN.{length}
 use denote.Ref.{now}
 use Rattle.words.specs.Block.{Block, Bytes}
 use Rattle.words.proofs.Lists.{tailPart}
-use Rattle.masks.proofs.Arrays.{array-block}
+use Rattle.words.proofs.Arrays.{array-block}
 use Rattle.blockplan.specs.Plan.{whole, left}
 use Rattle.opp.proofs.Passes.{blocks-planned, all-whole, all-left}
 use borrow.Author.Needs.{needs}

@@ -1,24 +1,23 @@
 -- The loop's invariant: the first i words are loaded. Assumes nothing.
-use mathlib.Core.Path.{_≡_, refl}
-use Prim.Native.Nat.{_≤_, _-_}
+use mathlib.Core.Path.{refl}
+use Prim.Native.Nat.{_-_}
 use native.Mathlib.Omega.{arith}
-use lib.ListN.{length, take, length-set, length-drop}
-use Rattle.words.specs.Sequence.{tab}
+use lib.ListN.{length-drop}
 use Rattle.words.specs.Block.{wordAt, blockOf}
-use Rattle.words.proofs.Lists.{stored, filled, tailPart}
+use Rattle.words.proofs.Lists.{tailPart}
+use Rattle.words.proofs.Loops.{Filling, filling-none, filling-more, filling-done}
 use borrow.Author.Needs.{needs}
 use Rattle.words.proofs.block.load.Statement.{statement}
 use Rattle.words.proofs.block.load.Tie as tie
 
 abbrev Inv-loop : tie.InvT-loop
-Inv-loop s r₀ i₀ r i = (i ≤ 16) × ((length r ≡ 16) × (take i r ≡ tab (wordAt s) i))
+Inv-loop s r₀ i₀ r i = Filling (wordAt s) 16 r i
 
 abbrev μ-loop : tie.MeasureT-loop
 μ-loop s r₀ i₀ r i = 16 - i
 
 loop-holds : tie.Need-loop-holds Inv-loop μ-loop
-unfolding tab
-loop-holds c = (search needs, (refl, refl))
+loop-holds c = filling-none _ refl
 
 mul-at : tie.Need-mul-at Inv-loop μ-loop
 mul-at c = search needs
@@ -49,21 +48,11 @@ loop-less c = search needs
 
 loop-again : tie.Need-loop-again Inv-loop μ-loop
 unfolding wordAt
-loop-again c =
-    let inv = c .before .before .before .loop .inv in (
-      omega arith,
-      (
-        simp length-set (inv .1 .0),
-        stored _ (c .before .before .before .loop .i) _ _ (omega arith) (inv .1 .1) (rw tailPart at (c .load-word .ensures)),
-      ),
-    )
+loop-again c = filling-more (c .before .before .before .loop .inv) (omega arith) (rw tailPart at (c .load-word .ensures))
 
 returns : tie.Need-returns Inv-loop μ-loop
 unfolding blockOf
-returns c =
-    let inv = c .before .loop .inv in
-    let e : c .before .loop .i ≡ 16 = omega arith in
-    filled _ 16 _ (inv .1 .0) (rw e at (inv .1 .1))
+returns c = filling-done (c .before .loop .inv) (omega arith)
 
 pub load-spec : {M : Type 1} → statement M
 load-spec =

@@ -1,24 +1,21 @@
 -- The loop's invariant: the first i words are done, the others are those of a. Assumes nothing.
-use mathlib.Core.Path.{_≡_, refl}
-use Prim.Native.Nat.{_≤_, _-_}
+use mathlib.Core.Path.{refl}
+use Prim.Native.Nat.{_-_}
 use native.Mathlib.Omega.{arith}
-use lib.ListN.{length, take, length-set}
-use Rattle.words.specs.Sequence.{tab}
 use Rattle.words.specs.Block.{xorAt, xorBlock}
-use Rattle.words.proofs.Lists.{stored, filled}
+use Rattle.words.proofs.Loops.{Filling, filling-none, filling-more, filling-done}
 use borrow.Author.Needs.{needs}
 use Rattle.words.proofs.block.xor.Statement.{statement}
 use Rattle.words.proofs.block.xor.Tie as tie
 
 abbrev Inv-loop : tie.InvT-loop
-Inv-loop a b r₀ i₀ r i = (i ≤ 16) × ((length r ≡ 16) × (take i r ≡ tab (xorAt a b) i))
+Inv-loop a b r₀ i₀ r i = Filling (xorAt a b) 16 r i
 
 abbrev μ-loop : tie.MeasureT-loop
 μ-loop a b r₀ i₀ r i = 16 - i
 
 loop-holds : tie.Need-loop-holds Inv-loop μ-loop
-unfolding tab
-loop-holds c = (search needs, (search needs, refl))
+loop-holds c = filling-none _ (search needs)
 
 mul-r : tie.Need-mul-r Inv-loop μ-loop
 mul-r c = search needs
@@ -46,16 +43,11 @@ loop-less c = search needs
 
 loop-again : tie.Need-loop-again Inv-loop μ-loop
 unfolding xorAt
-loop-again c =
-    let inv = c .before .loop .inv in
-    (omega arith, (simp length-set (inv .1 .0), stored _ (c .before .loop .i) _ _ (omega arith) (inv .1 .1) refl))
+loop-again c = filling-more (c .before .loop .inv) (omega arith) refl
 
 returns : tie.Need-returns Inv-loop μ-loop
 unfolding xorBlock
-returns c =
-    let inv = c .before .loop .inv in
-    let e : c .before .loop .i ≡ 16 = omega arith in
-    filled _ 16 _ (inv .1 .0) (rw e at (inv .1 .1))
+returns c = filling-done (c .before .loop .inv) (omega arith)
 
 pub xor-spec : {M : Type 1} → statement M
 xor-spec =

@@ -1,0 +1,16 @@
+-- The two tests in turn. Assumes nothing.
+use borrow.Author.Tests.{eq-eqb, ne-eqb}
+use Rattle.checks.specs.Checks.{isMode}
+use Rattle.checks.proofs.is_mode.Statement.{statement}
+use Rattle.checks.proofs.is_mode.Tie as tie
+
+returns : tie.Need-returns
+unfolding isMode
+returns c = simp (eq-eqb _ _ (c .if1 .taken))
+
+returns-2 : tie.Need-returns-2
+unfolding isMode
+returns-2 c = simp (ne-eqb _ _ (c .if1 .left))
+
+pub is-mode-spec : {M : Type 1} → statement M
+is-mode-spec = tie.close (tie.spec returns returns-2)

@@ -1,0 +1,41 @@
+-- The checks of seal and open, over settings and lengths alone (document 01, "Entry points and where each call is checked"). Assumes nothing.
+use mathlib.Core.Bool.{Bool, not, _||_}
+use Prim.Native.Nat.{ℕ, _+_, _-_}
+use lib.Dec.{eqb, ltb}
+use Rattle.answers.specs.Answers.{line, room}
+use Rattle.answers.specs.declared.Check.{Check}
+use Rattle.answers.specs.declared.Ground.the-variants.{Mode, Rounds, KeyLength, NonceLength, HeaderLength, InputLength, TagMissing}
+
+-- mode 1 or 2
+unfoldable pub isMode : ℕ → Bool
+isMode mode = eqb mode 1 || eqb mode 2
+
+-- rounds 4 or 6
+unfoldable pub isRounds : ℕ → Bool
+isRounds rounds = eqb rounds 4 || eqb rounds 6
+
+-- seal, open, first to fifth: mode, rounds, and the lengths of key, nonce and header; then the checks behind them
+unfoldable pub settings : ℕ → ℕ → ℕ → ℕ → ℕ → Check → Check
+settings mode rounds key nonce header next =
+    line (not (isMode mode)) Mode
+    (line (not (isRounds rounds)) Rounds
+    (line (not (eqb key 32)) KeyLength
+    (line (not (eqb nonce 16)) NonceLength
+    (line (ltb 4096 header) HeaderLength next))))
+
+-- seal, sixth: the message's length; then the checks behind it
+unfoldable pub sealInputs : ℕ → ℕ → ℕ → ℕ → ℕ → ℕ → Check → Check
+sealInputs mode rounds key nonce header message next = settings mode rounds key nonce header (line (ltb 65536 message) InputLength next)
+
+-- open, sixth and seventh: the parcel's length; then the checks behind it
+unfoldable pub openInputs : ℕ → ℕ → ℕ → ℕ → ℕ → ℕ → Check → Check
+openInputs mode rounds key nonce header parcel next =
+    settings mode rounds key nonce header (line (ltb parcel 32) TagMissing (line (ltb 65568 parcel) InputLength next))
+
+-- seal, all: the last is room for the parcel
+unfoldable pub sealChecks : ℕ → ℕ → ℕ → ℕ → ℕ → ℕ → ℕ → Check
+sealChecks mode rounds key nonce header message out = sealInputs mode rounds key nonce header message (room (message + 32) out)
+
+-- open, all but the tag's, which comes last: the last of these is room for the message
+unfoldable pub openChecks : ℕ → ℕ → ℕ → ℕ → ℕ → ℕ → ℕ → Check
+openChecks mode rounds key nonce header parcel out = openInputs mode rounds key nonce header parcel (room (parcel - 32) out)

@@ -1,0 +1,119 @@
+//! Seal and open under one key.
+
+use crate::{slices, Key, Mode, Nonce, Refusal, Rounds};
+
+/// Authenticated encryption under one mode, round count and key.
+///
+/// It keeps nothing between calls. No two of the arguments of a call have the same type, so that
+/// none can stand in another's place:
+///
+/// ```compile_fail,E0308
+/// # use calmbaize::{Aead, Header, Key, Mode, Nonce, Rounds};
+/// let aead = Aead::new(Mode::Mro, Rounds::Six, Key::new([7; 32]));
+/// let (nonce, header, message) = (Nonce::new([1; 16]), Header(b"machine 11"), b"150 cents");
+/// aead.seal(&nonce, message, header, &mut [0; 64]);
+/// ```
+///
+/// ```compile_fail,E0308
+/// # use calmbaize::{Aead, Key, Mode, Nonce, Rounds};
+/// let aead = Aead::new(Mode::Mro, Rounds::Six, Nonce::new([1; 16]));
+/// ```
+#[derive(Clone, Debug)]
+pub struct Aead {
+    mode: Mode,
+    rounds: Rounds,
+    key: Key,
+}
+
+/// What is authenticated with a message and is no part of the parcel. [`Header::default()`] is
+/// empty.
+#[derive(Clone, Copy, Debug, Default, PartialEq, Eq, Hash)]
+pub struct Header<'a>(pub &'a [u8]);
+
+impl Aead {
+    /// The value that seals and opens with these settings.
+    pub const fn new(mode: Mode, rounds: Rounds, key: Key) -> Self {
+        Self { mode, rounds, key }
+    }
+
+    /// Encrypts and authenticates `message`, authenticates `header`, and writes the parcel to the
+    /// first `message.len() + TAG_LEN` bytes of `output`.
+    ///
+    /// Returns the length of the parcel. The rest of `output` is unchanged.
+    ///
+    /// # Errors
+    ///
+    /// The first of [`Ground::HeaderTooLong`], [`Ground::InputTooLong`] and
+    /// [`Ground::OutputTooShort`] that holds. No byte of `output` changes then.
+    ///
+    /// # Examples
+    ///
+    /// ```
+    /// use calmbaize::{Aead, Ground, Header, Key, Mode, Nonce, Rounds};
+    ///
+    /// let aead = Aead::new(Mode::Mro, Rounds::Four, Key::new([7; 32]));
+    /// let (nonce, header) = (Nonce::new([1; 16]), Header::default());
+    /// let mut parcel = [0; 64];
+    /// assert_eq!(aead.seal(&nonce, header, b"tea", &mut parcel), Ok(35));
+    /// let short = aead.seal(&nonce, header, b"tea", &mut parcel[..34]);
+    /// assert_eq!(short, Err(Ground::OutputTooShort.into()));
+    /// ```
+    ///
+    /// [`Ground::HeaderTooLong`]: crate::Ground::HeaderTooLong
+    /// [`Ground::InputTooLong`]: crate::Ground::InputTooLong
+    /// [`Ground::OutputTooShort`]: crate::Ground::OutputTooShort
+    pub fn seal(
+        &self,
+        nonce: &Nonce,
+        header: Header<'_>,
+        message: &[u8],
+        output: &mut [u8],
+    ) -> Result<usize, Refusal> {
+        let (mode, rounds) = (self.mode as u32, self.rounds.count());
+        let (key, nonce) = (self.key.bytes(), nonce.bytes());
+        slices::seal(mode, rounds, key, nonce, header.0, message, output)
+    }
+
+    /// Verifies and decrypts `parcel` and writes its message to the first
+    /// `parcel.len() - TAG_LEN` bytes of `output`.
+    ///
+    /// Returns the length of the message. The rest of `output` is unchanged. It succeeds exactly
+    /// where `parcel` is what [`seal`](Self::seal) writes for that message with the same nonce and
+    /// header.
+    ///
+    /// # Errors
+    ///
+    /// The first of [`Ground::HeaderTooLong`], [`Ground::InputTooShort`],
+    /// [`Ground::InputTooLong`], [`Ground::OutputTooShort`] and [`Ground::Tag`] that holds. On
+    /// [`Ground::Tag`] the bytes that the message would have filled are zero and the rest is
+    /// unchanged; on every other one no byte of `output` changes.
+    ///
+    /// # Examples
+    ///
+    /// ```
+    /// use calmbaize::{Aead, Ground, Header, Key, Mode, Nonce, Rounds};
+    ///
+    /// let aead = Aead::new(Mode::Opp, Rounds::Four, Key::new([7; 32]));
+    /// let mut message = [0xaa; 8];
+    /// let answer = aead.open(&Nonce::new([1; 16]), Header::default(), &[1; 36], &mut message);
+    /// assert_eq!(answer, Err(Ground::Tag.into()));
+    /// assert_eq!(message, [0, 0, 0, 0, 0xaa, 0xaa, 0xaa, 0xaa]);
+    /// ```
+    ///
+    /// [`Ground::HeaderTooLong`]: crate::Ground::HeaderTooLong
+    /// [`Ground::InputTooShort`]: crate::Ground::InputTooShort
+    /// [`Ground::InputTooLong`]: crate::Ground::InputTooLong
+    /// [`Ground::OutputTooShort`]: crate::Ground::OutputTooShort
+    /// [`Ground::Tag`]: crate::Ground::Tag
+    pub fn open(
+        &self,
+        nonce: &Nonce,
+        header: Header<'_>,
+        parcel: &[u8],
+        output: &mut [u8],
+    ) -> Result<usize, Refusal> {
+        let (mode, rounds) = (self.mode as u32, self.rounds.count());
+        let (key, nonce) = (self.key.bytes(), nonce.bytes());
+        slices::open(mode, rounds, key, nonce, header.0, parcel, output)
+    }
+}

@@ -1,0 +1,57 @@
+//! Mode and round count.
+
+use crate::{Ground, Refusal};
+
+/// How a message is encrypted.
+#[derive(Clone, Copy, Debug, PartialEq, Eq, Hash)]
+#[repr(u32)]
+pub enum Mode {
+    /// Offset Public Permutation. A nonce must never be used twice with one key.
+    Opp = 1,
+    /// Misuse-Resistant Offset.
+    Mro = 2,
+}
+
+/// The allowed counts, each with its name. This list is the only one.
+macro_rules! rounds {
+    ($first:ident = $least:literal $(, $name:ident = $count:literal)*) => {
+        /// The rounds of the permutation.
+        #[derive(Clone, Copy, Debug, PartialEq, Eq, Hash)]
+        #[non_exhaustive]
+        #[repr(u32)]
+        pub enum Rounds {
+            #[doc = concat!($least, " rounds.")]
+            $first = $least,
+            $(
+                #[doc = concat!($count, " rounds.")]
+                $name = $count,
+            )*
+        }
+
+        impl Rounds {
+            /// All that is allowed, the least first.
+            pub const ALL: &'static [Self] = &[Self::$first $(, Self::$name)*];
+            /// The same in words, for a reader.
+            pub const LIST: &'static str = concat!($least $(, " or ", $count)*);
+        }
+    };
+}
+
+rounds!(Four = 4, Six = 6);
+
+impl Rounds {
+    /// The count as a number.
+    pub const fn count(self) -> u32 {
+        self as u32
+    }
+}
+
+impl TryFrom<u32> for Rounds {
+    type Error = Refusal;
+
+    /// Any count that is not allowed is refused with [`Ground::Rounds`].
+    fn try_from(count: u32) -> Result<Self, Refusal> {
+        let found = Self::ALL.iter().find(|rounds| rounds.count() == count);
+        found.copied().ok_or(Ground::Rounds.into())
+    }
+}

@@ -1,0 +1,197 @@
+//! The four calls as C has them: slices of any length, mode and round count as plain numbers, and
+//! every ground checked by the library.
+//!
+//! They are for those who do not know the lengths beforehand. Here nothing but the order tells
+//! one slice from another; [`Aead`](crate::Aead), [`walk`](crate::walk()) and
+//! [`jump`](crate::jump()) tell them apart by type.
+
+use crate::ffi;
+use crate::Refusal;
+
+/// Encrypts and authenticates `message`, authenticates `header`, and writes the parcel to the
+/// first `message.len() + TAG_LEN` bytes of `output`.
+///
+/// Returns the length of the parcel. The rest of `output` is unchanged.
+///
+/// # Errors
+///
+/// The first of the grounds 1, 2, 3, 4, 5, 6 and 7 that holds, in this order. No byte of `output`
+/// changes then.
+///
+/// # Examples
+///
+/// ```
+/// use calmbaize::{slices, Ground};
+///
+/// let mut parcel = [0; 64];
+/// assert_eq!(slices::seal(1, 4, &[0; 32], &[0; 16], b"", b"tea", &mut parcel), Ok(35));
+/// let short = slices::seal(1, 4, &[0; 31], &[0; 16], b"", b"tea", &mut parcel);
+/// assert_eq!(short, Err(Ground::KeyLength.into()));
+/// ```
+pub fn seal(
+    mode: u32,
+    rounds: u32,
+    key: &[u8],
+    nonce: &[u8],
+    header: &[u8],
+    message: &[u8],
+    output: &mut [u8],
+) -> Result<usize, Refusal> {
+    let inputs = [key, nonce, header, message];
+    seal_or_open(Call::Seal, mode, rounds, inputs, output)
+}
+
+/// Verifies and decrypts `parcel` and writes its message to the first `parcel.len() - TAG_LEN`
+/// bytes of `output`.
+///
+/// Returns the length of the message. The rest of `output` is unchanged. It succeeds exactly where
+/// `parcel` is what [`seal`] writes for that message under the same settings.
+///
+/// # Errors
+///
+/// The first of the grounds 1, 2, 3, 4, 5, 8, 6, 7 and 9 that holds, in this order. On 9 the bytes
+/// that the message would have filled are zero and the rest is unchanged; on every other one no
+/// byte of `output` changes.
+///
+/// # Examples
+///
+/// ```
+/// use calmbaize::{slices, Ground};
+///
+/// let mut message = [0xaa; 8];
+/// let answer = slices::open(1, 4, &[0; 32], &[0; 16], b"", &[1; 36], &mut message);
+/// assert_eq!(answer, Err(Ground::Tag.into()));
+/// assert_eq!(message, [0, 0, 0, 0, 0xaa, 0xaa, 0xaa, 0xaa]);
+/// ```
+pub fn open(
+    mode: u32,
+    rounds: u32,
+    key: &[u8],
+    nonce: &[u8],
+    header: &[u8],
+    parcel: &[u8],
+    output: &mut [u8],
+) -> Result<usize, Refusal> {
+    let inputs = [key, nonce, header, parcel];
+    seal_or_open(Call::Open, mode, rounds, inputs, output)
+}
+
+/// Writes the block reached from `start` by the step bytes `steps` to the first
+/// [`BLOCK_LEN`](crate::BLOCK_LEN) bytes of `output`.
+///
+/// Returns that length. The rest of `output` is unchanged.
+///
+/// # Errors
+///
+/// The first of the grounds 10, 13, 12 and 7 that holds, in this order. No byte of `output`
+/// changes then.
+///
+/// # Examples
+///
+/// ```
+/// use calmbaize::{slices, Ground};
+///
+/// let mut reached = [0; 128];
+/// assert_eq!(slices::walk(&[1; 128], &[1, 3, 4, 6], &mut reached), Ok(128));
+/// assert_eq!(reached, [1; 128]);
+/// let refusal = slices::walk(&[1; 128], &[1, 7], &mut reached).unwrap_err();
+/// assert_eq!((refusal.ground, refusal.place), (Ground::Step, 1));
+/// ```
+pub fn walk(start: &[u8], steps: &[u8], output: &mut [u8]) -> Result<usize, Refusal> {
+    // SAFETY: each pointer is valid for its length, and a mutable borrow overlaps no other.
+    written(unsafe {
+        ffi::calmbaize_walk(
+            start.as_ptr(),
+            start.len(),
+            steps.as_ptr(),
+            steps.len(),
+            output.as_mut_ptr(),
+            output.len(),
+        )
+    })
+}
+
+/// Writes the block after `alpha`, then `beta`, then `gamma` steps from `start`, back steps where
+/// a count is negative, to the first [`BLOCK_LEN`](crate::BLOCK_LEN) bytes of `output`.
+///
+/// Returns that length. The rest of `output` is unchanged.
+///
+/// # Errors
+///
+/// The first of the grounds 10, 11 and 7 that holds, in this order. No byte of `output` changes
+/// then.
+///
+/// # Examples
+///
+/// ```
+/// use calmbaize::{slices, Ground};
+///
+/// let mut reached = [0; 128];
+/// assert_eq!(slices::jump(&[1; 128], 2, 0, -1, &mut reached), Ok(128));
+/// let short = slices::jump(&[1; 128], 2, 0, -1, &mut reached[..127]);
+/// assert_eq!(short, Err(Ground::OutputTooShort.into()));
+/// ```
+pub fn jump(
+    start: &[u8],
+    alpha: i32,
+    beta: i32,
+    gamma: i32,
+    output: &mut [u8],
+) -> Result<usize, Refusal> {
+    // SAFETY: each pointer is valid for its length, and a mutable borrow overlaps no other.
+    written(unsafe {
+        ffi::calmbaize_jump(
+            start.as_ptr(),
+            start.len(),
+            alpha,
+            beta,
+            gamma,
+            output.as_mut_ptr(),
+            output.len(),
+        )
+    })
+}
+
+/// The two calls that take the same arguments.
+enum Call {
+    Seal,
+    Open,
+}
+
+fn seal_or_open(
+    call: Call,
+    mode: u32,
+    rounds: u32,
+    [key, nonce, header, input]: [&[u8]; 4],
+    output: &mut [u8],
+) -> Result<usize, Refusal> {
+    let function = match call {
+        Call::Seal => ffi::calmbaize_seal,
+        Call::Open => ffi::calmbaize_open,
+    };
+    // SAFETY: each pointer is valid for its length, and a mutable borrow overlaps no other.
+    written(unsafe {
+        function(
+            mode,
+            rounds,
+            key.as_ptr(),
+            key.len(),
+            nonce.as_ptr(),
+            nonce.len(),
+            header.as_ptr(),
+            header.len(),
+            input.as_ptr(),
+            input.len(),
+            output.as_mut_ptr(),
+            output.len(),
+        )
+    })
+}
+
+// A value of 32 bits is a `usize` on every machine that can hold the longest message.
+const _: () = assert!(usize::BITS >= 32);
+
+/// The bytes written, where that is what success answers.
+fn written(answer: u64) -> Result<usize, Refusal> {
+    ffi::decode(answer).map(|value| value as usize)
+}

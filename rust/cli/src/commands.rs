@@ -1,0 +1,179 @@
+//! The four commands, each over the library's call of that name.
+
+use crate::files::{self, Access};
+use crate::help;
+use crate::options::Options;
+use crate::Failure;
+use calmbaize::{slices, Aead, Header, Key, Mode, Nonce, Rounds};
+use calmbaize::{BLOCK_LEN, KEY_LEN, MAX_HEADER_LEN, MAX_MESSAGE_LEN, MAX_STEPS};
+use calmbaize::{NONCE_LEN, TAG_LEN};
+
+/// A command's name, its help, its options, what it writes, and who may read that.
+pub struct Command {
+    pub name: &'static str,
+    pub help: fn() -> String,
+    pub options: &'static [&'static str],
+    pub run: fn(&Options) -> Result<Vec<u8>, Failure>,
+    pub access: Access,
+}
+
+const SEALING: [&str; 8] = [
+    "--key",
+    "--key-file",
+    "--nonce",
+    "--nonce-file",
+    "--header",
+    "--header-file",
+    "--mode",
+    "--rounds",
+];
+
+/// A parcel may be seen by anyone. A mask is as secret as the key, since its steps and the
+/// permutation have ways back.
+pub const COMMANDS: [Command; 4] = [
+    Command {
+        name: "seal",
+        help: help::seal,
+        options: &SEALING,
+        run: seal,
+        access: Access::Ordinary,
+    },
+    Command {
+        name: "open",
+        help: help::open,
+        options: &SEALING,
+        run: open,
+        access: Access::Owner,
+    },
+    Command {
+        name: "walk",
+        help: help::walk,
+        options: &["--steps", "--start"],
+        run: walk,
+        access: Access::Owner,
+    },
+    Command {
+        name: "jump",
+        help: help::jump,
+        options: &["--alpha", "--beta", "--gamma", "--start"],
+        run: jump,
+        access: Access::Owner,
+    },
+];
+
+/// The rounds where none are given.
+pub const DEFAULT_ROUNDS: Rounds = Rounds::Six;
+
+/// The settings of seal and open.
+struct Settings {
+    aead: Aead,
+    nonce: Nonce,
+    header: Vec<u8>,
+}
+
+impl Settings {
+    fn new(options: &Options) -> Result<Self, Failure> {
+        check_standard_input(options)?;
+        let mode = match options.text("--mode")? {
+            None | Some("mro") => Mode::Mro,
+            Some("opp") => Mode::Opp,
+            Some(_) => return Err(Failure::Usage("--mode is opp or mro".into())),
+        };
+        let count = options.number("--rounds", DEFAULT_ROUNDS.count())?;
+        let needed = |name: &str| Failure::Usage(format!("--{name} or --{name}-file is needed"));
+        let key = bytes(options, "--key", "--key-file", KEY_LEN)?;
+        let key = key.ok_or_else(|| needed("key"))?;
+        let nonce = bytes(options, "--nonce", "--nonce-file", NONCE_LEN)?;
+        let nonce = nonce.ok_or_else(|| needed("nonce"))?;
+        let header = bytes(options, "--header", "--header-file", MAX_HEADER_LEN)?;
+        let (rounds, key) = (Rounds::try_from(count)?, Key::try_from(&key[..])?);
+        Ok(Self {
+            aead: Aead::new(mode, rounds, key),
+            nonce: Nonce::try_from(&nonce[..])?,
+            header: header.unwrap_or_default(),
+        })
+    }
+}
+
+fn seal(options: &Options) -> Result<Vec<u8>, Failure> {
+    let with = Settings::new(options)?;
+    let message = input(options, MAX_MESSAGE_LEN)?;
+    let mut parcel = vec![0; message.len() + TAG_LEN];
+    let header = Header(&with.header);
+    let written = with.aead.seal(&with.nonce, header, &message, &mut parcel)?;
+    parcel.truncate(written);
+    Ok(parcel)
+}
+
+fn open(options: &Options) -> Result<Vec<u8>, Failure> {
+    let with = Settings::new(options)?;
+    let parcel = input(options, MAX_MESSAGE_LEN + TAG_LEN)?;
+    let mut message = vec![0; parcel.len().saturating_sub(TAG_LEN)];
+    let header = Header(&with.header);
+    let written = with.aead.open(&with.nonce, header, &parcel, &mut message)?;
+    message.truncate(written);
+    Ok(message)
+}
+
+fn walk(options: &Options) -> Result<Vec<u8>, Failure> {
+    // What is no letter of a step becomes 0, which is no step either and is refused at its place.
+    let step = |letter| "abgABG".find(letter).map_or(0, |place| place as u8 + 1);
+    let letters = options.text("--steps")?.unwrap_or_default();
+    let steps: Vec<u8> = letters.chars().take(MAX_STEPS + 1).map(step).collect();
+    let mut reached = vec![0; BLOCK_LEN];
+    slices::walk(&start(options)?, &steps, &mut reached)?;
+    Ok(reached)
+}
+
+fn jump(options: &Options) -> Result<Vec<u8>, Failure> {
+    let alpha = options.number("--alpha", 0)?;
+    let beta = options.number("--beta", 0)?;
+    let gamma = options.number("--gamma", 0)?;
+    let mut reached = vec![0; BLOCK_LEN];
+    slices::jump(&start(options)?, alpha, beta, gamma, &mut reached)?;
+    Ok(reached)
+}
+
+fn start(options: &Options) -> Result<Vec<u8>, Failure> {
+    match bytes(options, "--start", "--input", BLOCK_LEN)? {
+        Some(start) => Ok(start),
+        None => input(options, BLOCK_LEN),
+    }
+}
+
+fn input(options: &Options, limit: usize) -> Result<Vec<u8>, Failure> {
+    files::read(options.value("--input"), limit)
+}
+
+/// Bytes from one of two options: hexadecimal, or a file.
+fn bytes(
+    options: &Options,
+    hex: &str,
+    file: &str,
+    limit: usize,
+) -> Result<Option<Vec<u8>>, Failure> {
+    match (options.hex(hex)?, options.value(file)) {
+        (Some(_), Some(_)) => Err(Failure::Usage(format!(
+            "{hex} and {file} exclude each other"
+        ))),
+        (Some(bytes), None) => Ok(Some(bytes)),
+        (None, Some(path)) => files::read(Some(path), limit).map(Some),
+        (None, None) => Ok(None),
+    }
+}
+
+/// Standard input can be read for one option only.
+fn check_standard_input(options: &Options) -> Result<(), Failure> {
+    let settings = ["--key-file", "--nonce-file", "--header-file"];
+    let named = settings.iter().filter_map(|name| options.value(name));
+    let count = named.filter(|path| files::is_standard(path)).count();
+    let input = options.value("--input").is_none_or(files::is_standard);
+    if count + usize::from(input) > 1 {
+        return Err(Failure::Usage(
+            "only one of --key-file, --nonce-file, --header-file and --input can be \
+             standard input"
+                .into(),
+        ));
+    }
+    Ok(())
+}

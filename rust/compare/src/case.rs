@@ -1,0 +1,190 @@
+//! A case of a file: a call line and its answer line.
+
+use crate::pages::{Edge, Input, Output};
+use crate::text::{hex, number, Bytes};
+use std::str::{FromStr, Split};
+
+/// The cases of a file by the number of their call line, or what is wrong with the file.
+pub fn cases(text: &str) -> Result<Vec<(usize, &str, &str)>, String> {
+    let lines: Vec<&str> = text.split_terminator('\n').collect();
+    if !text.ends_with('\n') {
+        return Err("no case, or a last line that does not end".into());
+    }
+    if lines.len() % 2 == 1 {
+        return Err("the last call has no answer".into());
+    }
+    let pairs = lines.chunks_exact(2).enumerate();
+    Ok(pairs
+        .map(|(i, pair)| (2 * i + 1, pair[0], pair[1]))
+        .collect())
+}
+
+/// The fields of a case, taken one after the other from the call line and then from the answer's.
+pub struct Case<'a> {
+    fields: Split<'a, char>,
+    answer: Split<'a, char>,
+    edge: Edge,
+    /// Empty buffers are null pointers.
+    pub null: bool,
+    differences: Vec<String>,
+}
+
+/// A buffer that is lent to be written, and what it holds before.
+pub struct Lent {
+    before: Bytes,
+    pub now: Output,
+}
+
+impl<'a> Case<'a> {
+    /// The case of the `fields` behind a call's word, and of an answer line.
+    pub fn new(fields: &'a str, answer: &'a str) -> Result<Self, String> {
+        let mut case = Self {
+            fields: fields.split(' '),
+            answer: answer.split(' '),
+            edge: Edge::Last,
+            null: false,
+            differences: Vec::new(),
+        };
+        (case.edge, case.null) = match case.number::<u32>()? {
+            0 => (Edge::Last, false),
+            1 => (Edge::First, false),
+            2 => (Edge::Last, true),
+            edge => return Err(format!("no edge {edge}")),
+        };
+        Ok(case)
+    }
+
+    fn field(&mut self) -> Result<&'a str, String> {
+        self.fields
+            .next()
+            .ok_or_else(|| "a field is missing".into())
+    }
+
+    fn answer_field(&mut self) -> Result<&'a str, String> {
+        let missing = || "a field of the answer is missing".into();
+        self.answer.next().ok_or_else(missing)
+    }
+
+    /// The call's next field, a number.
+    pub fn number<T: FromStr>(&mut self) -> Result<T, String> {
+        number(self.field()?)
+    }
+
+    /// The call's next field, a buffer that the call reads.
+    pub fn input(&mut self) -> Result<Input, String> {
+        let bytes = Bytes::parse(self.field()?)?.bytes;
+        Ok(Input::new(&bytes, self.edge))
+    }
+
+    /// The call's next field, a buffer that the call writes.
+    pub fn lent(&mut self) -> Result<Lent, String> {
+        let before = Bytes::parse(self.field()?)?;
+        let now = Output::new(&before.bytes, self.edge);
+        Ok(Lent { before, now })
+    }
+
+    /// Holds a call's answer against the next two fields of the answer line.
+    pub fn answers(&mut self, answer: u64) -> Result<(), String> {
+        let wanted: (u32, u32) = (number(self.answer_field()?)?, number(self.answer_field()?)?);
+        let got = ((answer >> 32) as u32, answer as u32);
+        if got != wanted {
+            let ((n, v), (m, w)) = (wanted, got);
+            self.differences
+                .push(format!("wanted {n} {v}, got {m} {w}"));
+        }
+        Ok(())
+    }
+
+    /// Holds a buffer after the call against the next field of the answer line.
+    pub fn holds(&mut self, lent: &Lent) -> Result<(), String> {
+        let wanted = lent.before.after(self.answer_field()?)?;
+        let differing = wanted.iter().zip(&*lent.now).position(|(a, b)| a != b);
+        if let Some(at) = differing {
+            let (wanted, got) = (hex(&wanted[at..]), hex(&lent.now[at..]));
+            let place = format!("from byte {at} of {}", lent.now.len());
+            self.differences
+                .push(format!("{place} wanted {wanted}, got {got}"));
+        }
+        Ok(())
+    }
+
+    /// What differs, once every field has been taken.
+    pub fn finish(mut self) -> Result<(), String> {
+        if self.fields.next().is_some() || self.answer.next().is_some() {
+            return Err("a field too many".into());
+        }
+        if self.differences.is_empty() {
+            return Ok(());
+        }
+        Err(self.differences.join("; "))
+    }
+}
+
+#[cfg(test)]
+mod tests {
+    use super::*;
+
+    #[test]
+    fn lines_come_in_pairs() {
+        let two = "call 1\nanswer 1\ncall 2\nanswer 2\n";
+        let wanted = vec![(1, "call 1", "answer 1"), (3, "call 2", "answer 2")];
+        assert_eq!(cases(two), Ok(wanted));
+        for wrong in ["", "\n", "call\n", "call\nanswer", "call\nanswer\n\n"] {
+            assert!(cases(wrong).is_err(), "{wrong:?}");
+        }
+    }
+
+    /// Replays `number input lent`, a call that writes the number to all of the lent bytes.
+    fn replayed(fields: &str, answer: &str) -> Result<(), String> {
+        let mut case = Case::new(fields, answer)?;
+        let (fill, input) = (case.number()?, case.input()?);
+        let mut lent = case.lent()?;
+        lent.now.fill(fill);
+        case.answers(7 << 32 | input.len() as u64)?;
+        case.holds(&lent)?;
+        case.finish()
+    }
+
+    #[test]
+    fn agreeing_cases() {
+        for edge in [0, 1, 2] {
+            let agrees = |fields: &str, answer| replayed(&format!("{edge} {fields}"), answer);
+            assert_eq!(agrees("5 0102 ffff", "7 2 0505"), Ok(()));
+            assert_eq!(agrees("5 - -", "7 0 -"), Ok(()));
+            assert_eq!(agrees("5 *5000:01 *2:00", "7 5000 @0:0505"), Ok(()));
+            assert_eq!(agrees("0 00 *9:00", "7 1 ="), Ok(()));
+        }
+    }
+
+    #[test]
+    fn differences_are_named() {
+        let differs = |answer| replayed("0 5 01 ffffff", answer).unwrap_err();
+        assert_eq!(differs("6 1 050505"), "wanted 6 1, got 7 1");
+        assert_eq!(differs("7 0 050505"), "wanted 7 0, got 7 1");
+        let at = "from byte 1 of 3 wanted 0605, got 0505";
+        assert_eq!(differs("7 1 050605"), at);
+        assert_eq!(differs("0 1 050605"), format!("wanted 0 1, got 7 1; {at}"));
+    }
+
+    #[test]
+    fn lines_of_another_form_fail() {
+        for (fields, answer) in [
+            ("", "7 1 05"),
+            ("3 5 01 ff", "7 1 05"),
+            ("0 5 01", "7 1 05"),
+            ("0 5 01 ff ff", "7 1 05"),
+            ("0 5  01 ff", "7 1 05"),
+            ("0 256 01 ff", "7 1 05"),
+            ("0 5 1 ff", "7 1 05"),
+            ("0 5 01 ff", ""),
+            ("0 5 01 ff", "7 1"),
+            ("0 5 01 ff", "7 1 05 05"),
+            ("0 5 01 ff", "7 1 0505"),
+            ("0 5 01 *1:ff", "7 1 05"),
+            ("0 5 01 ff", "7 1 05\r"),
+        ] {
+            assert!(replayed(fields, answer).is_err(), "{fields} / {answer}");
+        }
+        assert_eq!(replayed("0 5 01 ff", "7 1 05"), Ok(()));
+    }
+}

@@ -1,0 +1,146 @@
+//! Known answers, and lengths at their limits.
+
+use crate::library::{refusal, Entry, Library};
+use crate::report::{pattern, Check, Tally};
+use reference::{MRO, OPP, ROUNDS};
+
+/// Every line that can be seen through the four calls.
+pub fn run(library: &Library) -> Tally {
+    let mut check = Check::new(library);
+    steps(&mut check);
+    zeros(&mut check);
+    sealing_limits(&mut check);
+    mask_limits(&mut check);
+    check.tally
+}
+
+/// A word's number and value.
+type Word = (usize, u64);
+
+/// P3 to P8: a step, a word of the start, and the words reached.
+fn steps(check: &mut Check) {
+    let lines: [(&str, u8, Word, &[Word]); 7] = [
+        ("P3", 1, (0, 1), &[(15, 0x0020_0000_0000_0000)]),
+        ("P4", 1, (0, 0x800), &[(15, 1)]),
+        ("P5", 1, (5, 1), &[(4, 1), (15, 0x2000)]),
+        (
+            "P6",
+            1,
+            (5, 0x0008_0000_0000_0000),
+            &[(4, 0x0008_0000_0000_0000)],
+        ),
+        ("P7", 2, (0, 1), &[(0, 1), (15, 0x0020_0000_0000_0000)]),
+        ("P8", 4, (15, 1), &[(0, 0x800)]),
+        (
+            "maskwalk",
+            3,
+            (0, 1),
+            &[
+                (0, 1),
+                (14, 0x0020_0000_0000_0000),
+                (15, 0x0020_0000_0000_0000),
+            ],
+        ),
+    ];
+    for (name, step, start, words) in lines {
+        let mut output = pattern(128);
+        let start = block(&[start]);
+        let answer = check
+            .library
+            .call(Entry::Walk, &[&start, &[step]], &mut output, false);
+        let passed = answer == 128 && output == block(words);
+        check.record(passed, || format!("{name}: {answer:#x}"));
+    }
+}
+
+/// P10 and P11; P2 is behind both, since a start of zeros gives masks of zeros.
+fn zeros(check: &mut Check) {
+    for (name, mode, len) in [("P10", OPP, 0), ("P10", MRO, 0), ("P11", OPP, 128)] {
+        for &rounds in ROUNDS {
+            let mut parcel = pattern(len + 32);
+            let inputs: [&[u8]; 4] = [&[0; 32], &[0; 16], &[], &vec![0; len]];
+            let entry = Entry::Seal { mode, rounds };
+            let answer = check.library.call(entry, &inputs, &mut parcel, false);
+            let passed = answer == len as u64 + 32 && parcel == vec![0; len + 32];
+            check.record(passed, || format!("{name}: {answer:#x}"));
+        }
+    }
+}
+
+fn sealing_limits(check: &mut Check) {
+    let good = ROUNDS[0];
+    let lines = [
+        ("rounds 5 and a key of 31", 5, 31, 0, 0, 32, refusal(2, 0)),
+        ("a header of 4,096", good, 32, 4096, 0, 32, 32),
+        ("a header of 4,097", good, 32, 4097, 0, 32, refusal(5, 0)),
+        ("a message of 65,536", good, 32, 0, 65_536, 65_568, 65_568),
+        (
+            "a message of 65,537",
+            good,
+            32,
+            0,
+            65_537,
+            65_569,
+            refusal(6, 0),
+        ),
+        ("an output of 159", good, 32, 0, 128, 159, refusal(7, 0)),
+    ];
+    for mode in [OPP, MRO] {
+        for (name, rounds, key, header, message, output, wanted) in lines {
+            let buffers = [key, 16, header, message].map(|len| vec![7; len]);
+            let inputs: Vec<&[u8]> = buffers.iter().map(Vec::as_slice).collect();
+            let entry = Entry::Seal { mode, rounds };
+            answers(check, name, entry, &inputs, &mut pattern(output), wanted);
+        }
+        // Zero key and nonce, so a tag of zeros opens as the empty message.
+        for (name, parcel, wanted) in [
+            ("a parcel of 31", vec![0; 31], refusal(8, 0)),
+            ("an empty message", vec![0; 32], 0),
+            ("a parcel of 32", vec![1; 32], refusal(9, 0)),
+        ] {
+            let inputs: [&[u8]; 4] = [&[0; 32], &[0; 16], &[], &parcel];
+            let entry = Entry::Open { mode, rounds: good };
+            answers(check, name, entry, &inputs, &mut [], wanted);
+        }
+    }
+}
+
+fn mask_limits(check: &mut Check) {
+    let mut output = pattern(128);
+    for kind in 0..3 {
+        for (count, wanted) in [(65_536, 128), (65_537, refusal(11, 0))] {
+            for count in [count, -count] {
+                let mut counts = [0; 3];
+                counts[kind] = count;
+                let name = format!("a net count of {count}");
+                let entry = Entry::Jump { counts };
+                answers(check, &name, entry, &[&[9; 128]], &mut output, wanted);
+            }
+        }
+    }
+    let inputs: [&[u8]; 2] = [&[9; 128], &[1, 7, 0]];
+    let (name, wanted) = ("steps 1, 7, 0", refusal(12, 1));
+    answers(check, name, Entry::Walk, &inputs, &mut output, wanted);
+}
+
+/// Counts whether a call answers `wanted`.
+fn answers(
+    check: &mut Check,
+    name: &str,
+    entry: Entry,
+    inputs: &[&[u8]],
+    output: &mut [u8],
+    wanted: u64,
+) {
+    let answer = check.library.call(entry, inputs, output, false);
+    check.record(answer == wanted, || format!("{name}: {answer:#x}"));
+}
+
+/// The bytes of the block with these words, the others zero.
+fn block(words: &[Word]) -> Vec<u8> {
+    let mut bytes = vec![0; 128];
+    for (place, word) in words {
+        bytes[8 * place..8 * place + 8].copy_from_slice(&word.to_le_bytes());
+    }
+    bytes
+}

@@ -1,0 +1,49 @@
+#!/bin/sh
+# The files are laid out as the formatters lay them out, and the linters find nothing. Each runs where
+# it is installed, and those that are not are named.
+#
+# usage: check-layout.sh [FOLDER]
+#
+# FOLDER is a copy of the repository, this one if it is not given.
+set -u
+
+root=$(cd "$(dirname "$0")/.." && pwd)
+folder=${1:-$root}
+log=$(mktemp)
+trap 'rm -f "$log"' EXIT
+passed=0
+failed=0
+
+# run NAME PROBE COMMAND...: PROBE is a command that shows that it is installed.
+run() {
+    name=$1
+    probe=$2
+    shift 2
+    if ! $probe > /dev/null 2>&1; then
+        echo "  not installed: $name"
+    elif "$@" > "$log" 2>&1; then
+        passed=$((passed + 1))
+    else
+        failed=$((failed + 1))
+        echo "  failed: $name"
+        cat "$log"
+    fi
+}
+
+# The wrapper's build asks for an archive, though nothing is linked.
+clippy() {
+    build=$root/rust/target/layout
+    "$root/tools/stand-in.sh" "$build/stand-in" &&
+        CALMBAIZE_LIB_DIR=$build/stand-in CARGO_TARGET_DIR=$build cargo clippy --offline --quiet \
+            --workspace --all-targets -- -D warnings
+}
+
+cd "$folder" || exit 2
+run "rt fmt --check" "rt version" rt fmt --check
+run "shellcheck" "shellcheck --version" shellcheck --severity=warning .ci/run tools/*.sh
+cd rust || exit 2
+run "cargo fmt --check" "cargo fmt --version" cargo fmt --all --check
+run "cargo clippy" "cargo clippy --version" clippy
+
+echo "$passed passed, $failed failed"
+[ "$failed" -eq 0 ] && [ "$passed" -gt 0 ]
