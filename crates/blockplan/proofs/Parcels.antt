@@ -1,5 +1,5 @@
 -- Laws of parcels, for every mode that is lawful: a message comes back from its parcel, and a genuine parcel is that of its message. Assumes nothing.
-use mathlib.Core.Path.{_≡_, refl, sym, ap, ap₂, _∙_}
+use mathlib.Core.Path.{_≡_, refl, ap, ap₂, _∙_}
 use mathlib.Core.Bool.{Bool, true, false, cond}
 use mathlib.Core.List.{List, _++_, append-assoc}
 use Prim.Native.Nat.{ℕ, _+_, _-_, _≤_}
@@ -44,14 +44,13 @@ module _ (m : Mode) (law : Lawful m) (header : List ℕ) where
         drop-at (m .cipher tag message) tag (length (parcelOf m header message) - 32) (omega (arith, parcel-long, law .cipher-long tag message))
 
     -- the ciphertext is in front, and the tag was written behind it
-    pub sealed-as : (old xs ys : List ℕ) → xs ≡ m .cipher (m .tag header message) message ++ drop (length message) old
-        → ys ≡ m .tag header message ++ drop 32 (take (length xs - length message) (drop (length message) xs))
+    pub sealed-as : (tag old xs ys : List ℕ) → tag ≡ m .tag header message → xs ≡ m .cipher tag message ++ drop (length message) old
+        → ys ≡ tag ++ drop 32 (take (length xs - length message) (drop (length message) xs))
         → putMid (length message) (length xs - length message) xs ys ≡ parcelOf m header message ++ drop (length message + 32) old
     unfolding parcelOf
-    sealed-as old xs ys e q =
-        let tag = m .tag header message in
+    sealed-as tag old xs ys t e q =
         fronted (length message) 32 (m .cipher tag message) tag old xs ys (law .cipher-long tag message) e q
-        ∙ sym (append-assoc (m .cipher tag message) tag (drop (length message + 32) old))
+        ∙ rw (t, append-assoc)
 
     -- its message comes back
     pub parcel-message : Bytes message → messageOf m (parcelOf m header message) ≡ message

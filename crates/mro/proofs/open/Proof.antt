@@ -1,7 +1,7 @@
 -- The message from the parcel's tag, the tag from the message, and what their comparison leaves. Assumes nothing.
-use mathlib.Core.Path.{_≡_, ap, _∙_}
-use mathlib.Core.List.{_++_}
-use Prim.Native.Nat.{_-_}
+use mathlib.Core.Path.{_≡_, ap, ap₂, _∙_}
+use mathlib.Core.List.{List, _++_}
+use Prim.Native.Nat.{ℕ, _-_}
 use native.Mathlib.Omega.{arith}
 use lib.ListN.{length, take, drop, length-drop, length-take}
 use lib.Seq.{length-take-le, take-at}
@@ -11,6 +11,7 @@ use Rattle.words.proofs.Lists.{tailPart}
 use Rattle.words.proofs.Blocks.{bytes-drop}
 use Rattle.blockplan.specs.Plan.{tagBytes}
 use Rattle.blockplan.specs.Parcel.{messageOf, cipherPart, tagPart}
+use Rattle.blockplan.specs.Compare.{verified}
 use Rattle.blockplan.proofs.Tags.{tag-of-block}
 use Rattle.blockplan.proofs.Parcels.{message-long, opened-is}
 use Rattle.mro.specs.Mro.{mroTag, mroMode}
@@ -75,8 +76,8 @@ returns c =
     let short : length (take n parcel) ≡ n = length-take-le n parcel (omega arith) in
     let streamed : out ≡ message ++ drop n old = rw (tag, short) at (stream .ensures) in
     let front : take n out ≡ message = ap (take n) streamed ∙ take-at message (drop n old) n (message-long mode law header parcel (omega arith)) in
-    rw (← opened-is mode law header parcel old (omega arith))
-    (rw (c .before .before .before .before .tag-block .ensures, front, streamed) at (c .before .before .verify .ensures))
+    let expected : tagBytes (c .before .before .before .before .tag-block .result) ≡ mode .tag header message = rw (c .before .before .before .before .tag-block .ensures, front) in
+    c .before .before .verify .ensures ∙ ap₂ (λ (t l : List ℕ). verified t parcel l) expected streamed ∙ opened-is mode law header parcel old (omega arith)
 
 pub open-spec : {M : Type 1} → statement M
 open-spec =

@@ -3,6 +3,7 @@ use native.Mathlib.Omega.{arith}
 use lib.ListN.{length-drop}
 use denote.Ref.{now}
 use Rattle.words.proofs.Lists.{tailPart}
+use Rattle.blockplan.specs.Plan.{tagBytes}
 use Rattle.blockplan.proofs.Parcels.{sealed-as}
 use Rattle.mro.specs.Mro.{mroTag, mroMode}
 use Rattle.mro.proofs.Opened.{mro-lawful}
@@ -37,9 +38,8 @@ returns c =
     let start = c .before .before .before .before .before .before .before .before .before .before .before .before in
     let tag = c .before .before .before .before .before .before .before .before .tag-block in
     let m = now (start .args .message) in
-    sealed-as (mroMode (start .args .rounds) (start .args .start)) (mro-lawful (start .args .rounds) (start .args .start)) (now (start .args .header)) m (now (start .args .out)) _ _
-    (rw (tag .ensures) at (c .before .before .before .before .before .before .xor-stream .ensures))
-    (rw (tag .ensures) at (c .before .before .store-tag .ensures))
+    sealed-as (mroMode (start .args .rounds) (start .args .start)) (mro-lawful (start .args .rounds) (start .args .start)) (now (start .args .header)) m (tagBytes (tag .result)) (now (start .args .out)) _ _
+    (rw (tag .ensures)) (c .before .before .before .before .before .before .xor-stream .ensures) (c .before .before .store-tag .ensures)
 
 pub seal-spec : {M : Type 1} → statement M
 seal-spec =

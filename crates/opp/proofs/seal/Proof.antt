@@ -45,7 +45,7 @@ returns c =
     let bytes : Bytes m = record { bytes = λ i. c .before .before .before .before .before .before .before .before .before .before .shared-slice-known2 .given i .fits } in
     let pass = c .before .before .before .before .before .before .before .pass .ensures in
     let tag = tag-is (a .rounds) (a .start) m block bytes false (now (a .header)) _ pass (c .before .before .before .before .tag-block .ensures) in
-    sealed-as (oppMode (a .rounds) (a .start)) (opp-lawful (a .rounds) (a .start) block) (now (a .header)) m (now (a .out)) _ _ (pass .all-written) (rw tag at (c .before .before .store-tag .ensures))
+    sealed-as (oppMode (a .rounds) (a .start)) (opp-lawful (a .rounds) (a .start) block) (now (a .header)) m _ (now (a .out)) _ _ tag (pass .all-written) (c .before .before .store-tag .ensures)
 
 pub seal-spec : {M : Type 1} → statement M
 seal-spec =

@@ -1,6 +1,12 @@
 -- The masks are the plan's, so the two calls give the sum. Assumes nothing.
+use mathlib.Core.Path.{ap, ap₂, _∙_}
+use mathlib.Core.List.{List}
+use Prim.Native.Nat.{ℕ}
+use denote.Ref.{now}
 use Rattle.words.specs.Sequence.{times}
-use Rattle.mem.specs.Mem.{maskAt, E}
+use Rattle.masks.specs.Steps.{beta}
+use Rattle.mem.specs.Mem.{maskAt, encipher, E}
+use Rattle.blockplan.specs.Plan.{left, hasLeft, xorIf}
 use Rattle.blockplan.specs.Pass.{madeAt, under, stepping}
 use Rattle.opp.specs.Opp.{padded, headerAt, oppSum}
 use borrow.Author.Needs.{needs}
@@ -19,8 +25,11 @@ absorb-left-requires c κs = search needs
 returns : tie.Need-returns
 unfolding oppSum headerAt padded E maskAt times madeAt under stepping
 returns c =
+    let a = c .before .before .before .before .before .before .args in
     let blocks = c .before .before .before .before .absorb .ensures in
-    rw (blocks .0, c .before .beta .ensures, blocks .1) at (c .absorb-left .ensures)
+    c .absorb-left .ensures
+    ∙ ap₂ (λ (sum mask : List ℕ). xorIf (hasLeft (now (a .header))) sum (encipher (a .rounds) mask (padded (left (now (a .header))))))
+    (blocks .0) (c .before .beta .ensures ∙ ap beta (blocks .1))
 
 pub header-sum-spec : {M : Type 1} → statement M
 header-sum-spec = tie.close (tie.spec absorb-requires beta-requires absorb-left-requires returns)
