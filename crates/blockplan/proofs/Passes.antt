@@ -1,6 +1,6 @@
 -- Laws of a pass over whole blocks, whatever function gives their masks. Assumes nothing.
 use mathlib.Core.Path.{_≡_, refl, sym, ap, _∙_}
-use mathlib.Core.Bool.{Bool, cond}
+use mathlib.Core.Bool.{Bool, false, cond}
 use mathlib.Core.List.{List, _++_}
 use Prim.Native.Nat.{ℕ, _+_, _-_, _*_, _≤_, _<_}
 use native.Mathlib.Omega.{arith}
@@ -12,7 +12,7 @@ use Rattle.words.proofs.Lists.{appended, cat-ext, timesed}
 use Rattle.masks.specs.Steps.{alpha}
 use Rattle.mem.specs.Mem.{maskAt, E, D}
 use Rattle.mem.proofs.Laws.{mask-alpha}
-use Rattle.blockplan.specs.Plan.{blockAt, xorOver}
+use Rattle.blockplan.specs.Plan.{blockAt, absorbAt, xorOver}
 use Rattle.blockplan.specs.Pass.{madeAt, bytesAt, plainAt, under, planned, stepping, Passed}
 use Rattle.blockplan.proofs.Sums.{summed, xorOver-ext}
 use Rattle.blockplan.proofs.Ciphered.{length-bytesAt}
@@ -54,6 +54,12 @@ module _ (opening : Bool) (rounds : ℕ) (f g : ℕ → List ℕ) (s : List ℕ)
   plain-agree =
       xorOver-ext (plainAt opening (under opening rounds f) s) (plainAt opening (under opening rounds g) s) n
       (λ i p. ap (λ (b : List ℕ). cond opening b (blockAt s i)) (made-agree i p))
+
+-- E(i, j, 0) of each block, by alpha steps from the mask (0, j, 0)
+pub absorbed : (rounds : ℕ) (start : List ℕ) (j : ℕ) (s : List ℕ) (n : ℕ) → Block start
+    → xorOver (madeAt (under false rounds (stepping (maskAt start 0 j 0))) s) n ≡ xorOver (absorbAt rounds start j s) n
+unfolding absorbAt madeAt under planned E
+absorbed rounds start j s n b = sum-agree false rounds (stepping (maskAt start 0 j 0)) (planned start j 0) s n (λ i h. stepping-planned start b j 0 i)
 
 pub passed-agree : (opening : Bool) (rounds : ℕ) (f g : ℕ → List ℕ) (s : List ℕ) (n : ℕ) {old new sum next : List ℕ} → ((i : ℕ) → i ≤ n → f i ≡ g i)
     → Passed opening rounds f s n old new sum next → Passed opening rounds g s n old new sum next

@@ -6,6 +6,7 @@ use lib.Dec.{ltb}
 use lib.ListN.{length, take, drop}
 use Rattle.words.specs.Sequence.{cat, fold}
 use Rattle.words.specs.Block.{blockOf, bytesOf, xorBlock, xorBytes, zeroBlock}
+use Rattle.mem.specs.Mem.{E}
 
 -- the number of whole blocks
 unfoldable pub whole : List ℕ → ℕ
@@ -22,6 +23,10 @@ hasLeft s = ltb 0 (length (left s))
 -- block i, counted from 0; bytes past the end count as zero
 unfoldable pub blockAt : List ℕ → ℕ → List ℕ
 blockAt s i = blockOf (drop (128 * i) s)
+
+-- block i of s as a sum takes it in, E(i, j, 0) of it: j is 0 for a header and 1 for MRO's message
+unfoldable pub absorbAt : ℕ → List ℕ → ℕ → List ℕ → ℕ → List ℕ
+absorbAt rounds start j s i = E rounds start i j 0 (blockAt s i)
 
 -- the xor of the blocks f 0 to f (n - 1); of no blocks it is the zero block
 unfoldable pub xorOver : (ℕ → List ℕ) → ℕ → List ℕ

@@ -9,17 +9,17 @@ use Rattle.permutation.specs.Permutation.{gOf, half, pick, put, stepAt, gAt, ov
 use Rattle.masks.specs.Steps.{alphaW, alpha, beta, gamma}
 use Rattle.back_steps.specs.BackSteps.{backAlpha}
 use Rattle.mem.specs.Mem.{startBlock, startOf, maskAt, encipher, E}
-use Rattle.blockplan.specs.Plan.{whole, left, hasLeft, blockAt, xorOver, xorIf, ciphered, tagBytes}
+use Rattle.blockplan.specs.Plan.{whole, left, hasLeft, blockAt, absorbAt, xorOver, xorIf, ciphered, tagBytes}
 use Rattle.blockplan.specs.Parcel.{same, parcelOf}
-use Rattle.opp.specs.Opp.{padded, headerAt, oppSum, oppCheck, oppTag, sealAt, oppStream, oppCipher, oppMode}
-use Rattle.mro.specs.Mro.{blocks, absorbAt, mroSum, lengths, mroTag, counter, mroStream, streamed, mroCipher, mroMode}
+use Rattle.opp.specs.Opp.{padded, oppSum, oppCheck, oppTag, sealAt, oppStream, oppCipher, oppMode}
+use Rattle.mro.specs.Mro.{blocks, mroSum, lengths, mroTag, counter, mroStream, streamed, mroCipher, mroMode}
 use Rattle.modes.specs.Modes.{modeOf}
 use Rattle.words.proofs.Truth.{allBelow, carried}
 use Rattle.blockplan.proofs.Compared.{same-true}
 use Rattle.known_answers.specs.KnownAnswers.{word, g, full, sealed, table, rowAt, KnownAnswers}
 
 computed : allBelow (λ i. same (rowAt i .got) (rowAt i .want)) (length table) ≡ true
-unfolding allBelow rowAt table same word g full sealed zeroBlock tab cat fold times zeros le lowBytes wordAt blockOf wordBytes bytesOf xorBytes perm startBlock startOf maskAt encipher E whole left hasLeft blockAt xorOver xorIf ciphered tagBytes padded headerAt oppSum oppCheck oppTag sealAt oppStream oppCipher blocks absorbAt mroSum lengths mroTag counter mroStream streamed mroCipher modeOf oppMode mroMode parcelOf gOf half addW rotR rotL shl round over groups gAt stepAt pick put alpha alphaW beta gamma xorBlock xorAt backAlpha
+unfolding allBelow rowAt table same word g full sealed zeroBlock tab cat fold times zeros le lowBytes wordAt blockOf wordBytes bytesOf xorBytes perm startBlock startOf maskAt encipher E whole left hasLeft blockAt xorOver xorIf ciphered tagBytes padded oppSum oppCheck oppTag sealAt oppStream oppCipher blocks absorbAt mroSum lengths mroTag counter mroStream streamed mroCipher modeOf oppMode mroMode parcelOf gOf half addW rotR rotL shl round over groups gAt stepAt pick put alpha alphaW beta gamma xorBlock xorAt backAlpha
 computed = refl
 
 pub known-answers : KnownAnswers

@@ -6,12 +6,12 @@ use Prim.Native.Nat.{ℕ, suc}
 use Rattle.words.specs.Sequence.{fold, times}
 use Rattle.words.specs.Block.{Block, blockOf, xorBlock}
 use Rattle.masks.specs.Steps.{beta}
-use Rattle.mem.specs.Mem.{maskAt, encipher, E}
+use Rattle.mem.specs.Mem.{maskAt, encipher}
 use Rattle.blockplan.specs.Plan.{whole, left, hasLeft, blockAt, xorOver, xorIf}
-use Rattle.blockplan.specs.Pass.{madeAt, under, planned, stepping}
+use Rattle.blockplan.specs.Pass.{madeAt, under, stepping}
 use Rattle.blockplan.proofs.Leftovers.{padded-zero}
-use Rattle.blockplan.proofs.Passes.{stepping-planned, sum-agree}
-use Rattle.mro.specs.Mro.{blocks, absorbAt, mroSum}
+use Rattle.blockplan.proofs.Passes.{absorbed}
+use Rattle.mro.specs.Mro.{blocks, mroSum}
 
 -- a block more where there is one
 one-more : (f : ℕ → List ℕ) (n : ℕ) (more : Bool) → xorIf more (xorOver f n) (f n) ≡ xorOver f (cond more (suc n) n)
@@ -25,12 +25,6 @@ pub summed-all : (rounds : ℕ) (mask : ℕ → List ℕ) (s : List ℕ)
     ≡ xorOver (madeAt (under false rounds mask) s) (blocks s)
 unfolding blocks madeAt under blockAt left
 summed-all rounds mask s = rw (padded-zero (left s)) (one-more (madeAt (under false rounds mask) s) (whole s) (hasLeft s))
-
--- E(i, j, 0) of each block, by alpha steps from the mask (0, j, 0)
-absorbed : (rounds : ℕ) (start : List ℕ) (j : ℕ) (s : List ℕ) (n : ℕ) → Block start
-    → xorOver (madeAt (under false rounds (stepping (maskAt start 0 j 0))) s) n ≡ xorOver (absorbAt rounds start j s) n
-unfolding absorbAt madeAt under planned E
-absorbed rounds start j s n b = sum-agree false rounds (stepping (maskAt start 0 j 0)) (planned start j 0) s n (λ i h. stepping-planned start b j 0 i)
 
 pub sum-is : (rounds : ℕ) (start header message : List ℕ) → Block start
     → xorBlock (xorOver (madeAt (under false rounds (stepping start)) header) (blocks header)) (xorOver (madeAt (under false rounds (stepping (beta start))) message) (blocks message))

@@ -6,16 +6,12 @@ use lib.ListN.{length}
 use Rattle.words.specs.Sequence.{tab, zeros}
 use Rattle.words.specs.Block.{wordAt, xorBlock}
 use Rattle.mem.specs.Mem.{E}
-use Rattle.blockplan.specs.Plan.{whole, hasLeft, blockAt, xorOver, ciphered, tagBytes}
+use Rattle.blockplan.specs.Plan.{whole, hasLeft, absorbAt, xorOver, ciphered, tagBytes}
 use Rattle.blockplan.specs.Parcel.{Mode}
 
 -- the number of blocks, a padded one included; leftovers are padded with zeros only, as blockAt does
 unfoldable pub blocks : List ℕ → ℕ
 blocks s = cond (hasLeft s) (suc (whole s)) (whole s)
-
--- block i of the header, E(i, 0, 0) of it, and of the message, E(i, 1, 0) of it: j is 0 for the header and 1 for the message
-unfoldable pub absorbAt : ℕ → List ℕ → ℕ → List ℕ → ℕ → List ℕ
-absorbAt rounds start j s i = E rounds start i j 0 (blockAt s i)
 
 -- Sum: xor of E(i, 0, 0) over header blocks and E(i, 1, 0) over message blocks, padded ones included
 unfoldable pub mroSum : ℕ → List ℕ → List ℕ → List ℕ → List ℕ

@@ -4,21 +4,17 @@ use mathlib.Core.List.{List, [], _∷_, _++_}
 use Prim.Native.Nat.{ℕ}
 use Rattle.words.specs.Block.{blockOf, xorBlock, zeroBlock}
 use Rattle.mem.specs.Mem.{E, D}
-use Rattle.blockplan.specs.Plan.{whole, left, hasLeft, blockAt, xorOver, xorIf, ciphered, tagBytes}
+use Rattle.blockplan.specs.Plan.{whole, left, hasLeft, blockAt, absorbAt, xorOver, xorIf, ciphered, tagBytes}
 use Rattle.blockplan.specs.Parcel.{Mode}
 
 -- a leftover padded with byte 0x01 and then zeros
 unfoldable pub padded : List ℕ → List ℕ
 padded s = blockOf (s ++ (1 ∷ []))
 
--- block i of the header, E(i, 0, 0) of it
-unfoldable pub headerAt : ℕ → List ℕ → List ℕ → ℕ → List ℕ
-headerAt rounds start header i = E rounds start i 0 0 (blockAt header i)
-
 -- Sum: xor of E(i, 0, 0) over the whole header blocks, and of E(h, 1, 0) of the leftover, padded
 unfoldable pub oppSum : ℕ → List ℕ → List ℕ → List ℕ
 oppSum rounds start header =
-    xorIf (hasLeft header) (xorOver (headerAt rounds start header) (whole header))
+    xorIf (hasLeft header) (xorOver (absorbAt rounds start 0 header) (whole header))
     (E rounds start (whole header) 1 0 (padded (left header)))
 
 -- Check: xor of the whole message blocks and the leftover padded in the same way

@@ -1,12 +1,10 @@
 -- The loop's invariant: the bytes of the first i words are in, the others are as they were. Assumes nothing.
-use mathlib.Core.Path.{_≡_, refl, _∙_}
-use mathlib.Core.List.{_++_}
-use Prim.Native.Nat.{_*_, _-_, _≤_}
+use Prim.Native.Nat.{_-_}
 use native.Mathlib.Omega.{arith}
-use lib.ListN.{length, drop, length-drop}
-use Rattle.words.specs.Sequence.{cat}
+use lib.ListN.{length-drop}
 use Rattle.words.specs.Block.{wordBytes}
-use Rattle.words.proofs.Lists.{appended, tailPart}
+use Rattle.words.proofs.Lists.{tailPart}
+use Rattle.words.proofs.Loops.{Writing, writing-none, writing-more, writing-done}
 use Rattle.words.proofs.Blocks.{length-wordBytes}
 use Rattle.blockplan.proofs.Tags.{tag-is}
 use borrow.Author.Needs.{needs}
@@ -14,14 +12,13 @@ use Rattle.blockplan.proofs.tag.store_tag.Statement.{statement}
 use Rattle.blockplan.proofs.tag.store_tag.Tie as tie
 
 abbrev Inv-loop : tie.InvT-loop
-Inv-loop out₀ b i₀ out i = (i ≤ 4) × ((length out ≡ length out₀) × (out ≡ cat (wordBytes b) i ++ drop (8 * i) out₀))
+Inv-loop out₀ b i₀ out i = Writing (wordBytes b) 8 4 out₀ out i
 
 abbrev μ-loop : tie.MeasureT-loop
 μ-loop out₀ b i₀ out i = 4 - i
 
 loop-holds : tie.Need-loop-holds Inv-loop μ-loop
-unfolding cat
-loop-holds c = (search needs, (refl, refl))
+loop-holds c = writing-none
 
 mul-at : tie.Need-mul-at Inv-loop μ-loop
 mul-at c = search needs
@@ -53,21 +50,14 @@ loop-less c = search needs
 loop-again : tie.Need-loop-again Inv-loop μ-loop
 unfolding wordBytes
 loop-again c =
-    let at = c .before .before .before .before .before .loop in (
-      omega arith,
-      (
-        c .before .out .given .1 ∙ at .inv .1 .0,
-        appended _ 8 (at .i) _ _ (c .before .before .store-word .last .1 .0) (length-wordBytes (c .before .before .before .before .before .before .before .args .t1)) (omega arith) (at .inv .1 .1) (c .before .before .store-word .ensures),
-      ),
-    )
+    let at = c .before .before .before .before .before in
+    writing-more (at .loop .inv) (length-wordBytes (at .before .before .args .t1)) (omega arith) (omega arith) (c .before .before .store-word .ensures)
 
 same-length : tie.Need-same-length Inv-loop μ-loop
 same-length c = search needs
 
 returns : tie.Need-returns Inv-loop μ-loop
-returns c =
-    let e : c .before .loop .i ≡ 4 = omega arith in
-    rw (tag-is (c .before .before .before .args .t1)) (rw e at (c .before .loop .inv .1 .1))
+returns c = rw (tag-is (c .before .before .before .args .t1)) (writing-done (c .before .loop .inv) (omega arith))
 
 pub store-tag-spec : {M : Type 1} → statement M
 store-tag-spec =

@@ -1,12 +1,12 @@
 -- The loop's invariant: the first i blocks are in, the others are as they were. Assumes nothing.
 use mathlib.Core.Path.{_≡_, refl}
-use mathlib.Core.List.{_++_}
-use Prim.Native.Nat.{_*_, _-_, _/_, _≤_}
+use Prim.Native.Nat.{_*_, _-_, _/_}
 use native.Mathlib.Omega.{arith}
-use lib.ListN.{length, drop, length-drop}
+use lib.ListN.{length, length-drop}
 use denote.Ref.{now}
-use Rattle.words.specs.Sequence.{cat, times}
-use Rattle.words.proofs.Lists.{appended, tailPart}
+use Rattle.words.specs.Sequence.{times}
+use Rattle.words.proofs.Lists.{tailPart}
+use Rattle.words.proofs.Loops.{Writing, writing-none, writing-more, writing-done}
 use Rattle.mem.specs.Mem.{maskAt, E}
 use Rattle.blockplan.specs.Plan.{whole, left, blockAt, tagBytes}
 use Rattle.blockplan.specs.Pass.{madeAt, bytesAt}
@@ -18,7 +18,7 @@ use Rattle.mro.proofs.stream.xor_stream.Statement.{statement}
 use Rattle.mro.proofs.stream.xor_stream.Tie as tie
 
 abbrev Inv-loop : tie.InvT-loop
-Inv-loop s tag rounds out₀ mask n i₀ out i = (i ≤ n) × ((n ≡ length s / 128) × ((length out ≡ length out₀) × (out ≡ cat (bytesAt (xored (streamAt rounds mask (tagBytes tag))) s) i ++ drop (128 * i) out₀)))
+Inv-loop s tag rounds out₀ mask n i₀ out i = (n ≡ length s / 128) × Writing (bytesAt (xored (streamAt rounds mask (tagBytes tag))) s) 128 n out₀ out i
 
 abbrev μ-loop : tie.MeasureT-loop
 μ-loop s tag rounds out₀ mask n i₀ out i = n - i
@@ -27,8 +27,7 @@ gamma-requires : tie.Need-gamma-requires Inv-loop μ-loop
 gamma-requires c κs = search needs
 
 loop-holds : tie.Need-loop-holds Inv-loop μ-loop
-unfolding cat
-loop-holds c = (search needs, (refl, (refl, refl)))
+loop-holds c = (refl, writing-none)
 
 mul-at : tie.Need-mul-at Inv-loop μ-loop
 mul-at c = search needs
@@ -73,18 +72,10 @@ loop-again : tie.Need-loop-again Inv-loop μ-loop
 unfolding bytesAt madeAt xored streamAt blockAt
 loop-again c =
     let at = c .before .before .before .before .before .before .before .before .before .loop in
-    let start = c .before .before .before .before .before .before .before .before .before .before .before .before .before in
-    let s = now (start .args .s) in (
-      omega arith,
-      (
-        refl,
-        (
-          omega (arith, c .before .out .given .1),
-          appended _ 128 (at .i) _ (at .out) (c .before .before .store .last .1 .0) (length-bytesAt (xored (streamAt _ _ _)) s) (omega arith) (at .inv .1 .1 .1)
-              (rw (c .before .before .before .before .xor .ensures, c .before .before .before .before .before .stream-block .ensures, c .before .before .before .before .before .before .load .ensures, tailPart (128 * at .i) s) at (c .before .before .store .ensures)),
-        ),
-      ),
-    )
+    let s = now (c .before .before .before .before .before .before .before .before .before .before .before .before .before .args .s) in
+    let made = rw (c .before .before .before .before .xor .ensures, c .before .before .before .before .before .stream-block .ensures, c .before .before .before .before .before .before .load .ensures, tailPart (128 * at .i) s)
+    at (c .before .before .store .ensures) in
+    (refl, writing-more (at .inv .1) (length-bytesAt (xored (streamAt _ _ _)) s) (omega arith) (omega arith) made)
 
 mul-at-2 : tie.Need-mul-at-2 Inv-loop μ-loop
 mul-at-2 c = search needs
@@ -127,9 +118,8 @@ returns c =
     let mask = c .before .before .before .before .before .before .before .before .before .gamma in
     let s = now (a .s) in
     let k = streamAt (a .rounds) (mask .result) (tagBytes (a .tag)) in
-    let e : at .i ≡ length s / 128 = omega arith in
     let rest = rw (tailPart (128 * whole s) s, c .before .before .before .before .stream-block2 .ensures) at (c .before .before .xor-leftover .ensures) in
-    rw (mask .ensures) at (written-left (xored k) k s (now (a .out)) (at .out) (rw e at (at .inv .1 .1 .1)) _ rest)
+    rw (mask .ensures) at (written-left (xored k) k s (now (a .out)) (at .out) (writing-done (at .inv .1) (omega arith)) _ rest)
 
 same-length-2 : tie.Need-same-length-2 Inv-loop μ-loop
 same-length-2 c = search needs
@@ -142,8 +132,7 @@ returns-2 c =
     let mask = c .before .before .before .gamma in
     let s = now (a .s) in
     let k = streamAt (a .rounds) (mask .result) (tagBytes (a .tag)) in
-    let e : at .i ≡ length s / 128 = omega arith in
-    rw (mask .ensures) at (written-whole (xored k) k s (now (a .out)) (at .out) (rw e at (at .inv .1 .1 .1)) (omega arith))
+    rw (mask .ensures) at (written-whole (xored k) k s (now (a .out)) (at .out) (writing-done (at .inv .1) (omega arith)) (omega arith))
 
 pub xor-stream-spec : {M : Type 1} → statement M
 xor-stream-spec =

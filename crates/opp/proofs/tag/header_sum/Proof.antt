@@ -6,9 +6,9 @@ use denote.Ref.{now}
 use Rattle.words.specs.Sequence.{times}
 use Rattle.masks.specs.Steps.{beta}
 use Rattle.mem.specs.Mem.{maskAt, encipher, E}
-use Rattle.blockplan.specs.Plan.{left, hasLeft, xorIf}
+use Rattle.blockplan.specs.Plan.{left, hasLeft, absorbAt, xorIf}
 use Rattle.blockplan.specs.Pass.{madeAt, under, stepping}
-use Rattle.opp.specs.Opp.{padded, headerAt, oppSum}
+use Rattle.opp.specs.Opp.{padded, oppSum}
 use borrow.Author.Needs.{needs}
 use Rattle.opp.proofs.tag.header_sum.Statement.{statement}
 use Rattle.opp.proofs.tag.header_sum.Tie as tie
@@ -23,7 +23,7 @@ absorb-left-requires : tie.Need-absorb-left-requires
 absorb-left-requires c κs = search needs
 
 returns : tie.Need-returns
-unfolding oppSum headerAt padded E maskAt times madeAt under stepping
+unfolding oppSum absorbAt padded E maskAt times madeAt under stepping
 returns c =
     let a = c .before .before .before .before .before .before .args in
     let blocks = c .before .before .before .before .absorb .ensures in
