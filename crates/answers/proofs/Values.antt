@@ -30,9 +30,11 @@ pub line-clear : (t : Bool) (g : Ground) (next : Check) → line t g next ≡ Cl
 unfolding line
 line-clear t g next e = lineAt-clear t g 0 next e
 
-pub room-clear : (needed lent : ℕ) → room needed lent ≡ Clear → needed ≤ lent
+pub room-clear : (needed lent : ℕ) (next : Check) → room needed lent next ≡ Clear → (needed ≤ lent) × (next ≡ Clear)
 unfolding room
-room-clear needed lent e = ltb-false lent needed (line-clear (ltb lent needed) OutputLength Clear e .0)
+room-clear needed lent next e =
+    let r = line-clear (ltb lent needed) OutputLength next e in
+    (ltb-false lent needed (r .0), r .1)
 
 -- ---- checks one after the other
 

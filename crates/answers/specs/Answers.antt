@@ -53,13 +53,13 @@ unfoldable pub lineAt : Bool → Ground → ℕ → Check → Check
 lineAt true ground place next = Fails ground place
 lineAt false ground place next = next
 
--- a place is 0 except for 12
+-- a line whose place is 0
 unfoldable pub line : Bool → Ground → Check → Check
 line test ground next = lineAt test ground 0 next
 
--- the last line of many calls: the output shorter than success writes
-unfoldable pub room : ℕ → ℕ → Check
-room needed lent = line (ltb lent needed) OutputLength Clear
+-- the line of many calls: the output shorter than success writes
+unfoldable pub room : ℕ → ℕ → Check → Check
+room needed lent next = line (ltb lent needed) OutputLength next
 
 -- a call: what its checks find it answers, and changes no byte of the output; where they are clear it answers and writes as given
 unfoldable pub checked : Check → List ℕ → Answer × List ℕ → Answer × List ℕ

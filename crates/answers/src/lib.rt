@@ -1,6 +1,7 @@
 // What a public call answers: a value, or the ground of refusal and its place; and what checks find.
 ghost use mathlib.Core.Path.{_≡_};
 ghost use Rattle.answers.specs.Answers.{groundNumber, numberOf, valueOf, codeOf, room as roomOf};
+ghost use Rattle.answers.specs.declared.Check.the-variants.{Clear};
 ghost use Prim.Native.Nat.{_<_, _^_};
 
 // Why a call is refused.
@@ -96,7 +97,7 @@ pub fn code(a: Answer) -> u64
 
 // The check that an output has room for what success writes.
 pub fn room(needed: usize, lent: usize) -> Check
-    ensures { λ r. ⌜ r ≡ roomOf needed lent ⌝ }
+    ensures { λ r. ⌜ r ≡ roomOf needed lent Clear ⌝ }
 {
     if lent < needed {
         return Check::Fails(Ground::OutputLength, 0);

@@ -1,6 +1,6 @@
 -- Laws of the checks of seal and open: the checks behind, what holds where all are clear, and that their places are 0. Assumes nothing.
 use mathlib.Core.Path.{_≡_, refl, sym, ap, _∙_}
-use mathlib.Core.Bool.{not}
+use mathlib.Core.Bool.{true, not}
 use Prim.Native.Nat.{ℕ, _+_, _-_, _≤_, _<_}
 use native.Mathlib.Omega.{arith}
 use lib.Dec.{eqb, ltb}
@@ -21,6 +21,12 @@ module _ (mode rounds key nonce header : ℕ) where
 
   settings-clear : (next : Check) → settings mode rounds key nonce header next ≡ Clear → (settings mode rounds key nonce header Clear ≡ Clear) × (next ≡ Clear)
   settings-clear next e = after-clear (settings mode rounds key nonce header Clear) next (sym (settings-after next) ∙ e)
+
+  pub settings-rounds : settings mode rounds key nonce header Clear ≡ Clear → isRounds rounds ≡ true
+  unfolding settings
+  settings-rounds e =
+      let a = line-clear (not (isMode mode)) Mode _ e in
+      not-false (isRounds rounds) (line-clear (not (isRounds rounds)) Rounds _ (a .1) .0)
 
   settings-lengths : settings mode rounds key nonce header Clear ≡ Clear → (key ≡ 32) × (nonce ≡ 16)
   unfolding settings
@@ -50,9 +56,9 @@ module _ (mode rounds key nonce header : ℕ) where
         → ((key ≡ 32) × (nonce ≡ 16)) × ((message ≤ 65536) × (message + 32 ≤ out))
     unfolding sealChecks
     seal-clear out e =
-        let a = after-clear _ _ (sym (seal-after (room (message + 32) out)) ∙ e) in
+        let a = after-clear _ _ (sym (seal-after (room (message + 32) out Clear)) ∙ e) in
         let i = seal-inputs (a .0) in
-        (settings-lengths (i .0), (i .1, room-clear (message + 32) out (a .1)))
+        (settings-lengths (i .0), (i .1, room-clear (message + 32) out Clear (a .1) .0))
 
   -- ---- open
 
@@ -74,9 +80,9 @@ module _ (mode rounds key nonce header : ℕ) where
         → ((key ≡ 32) × (nonce ≡ 16)) × (((32 ≤ parcel) × (parcel ≤ 65568)) × (parcel - 32 ≤ out))
     unfolding openChecks
     open-clear out e =
-        let a = after-clear _ _ (sym (open-after (room (parcel - 32) out)) ∙ e) in
+        let a = after-clear _ _ (sym (open-after (room (parcel - 32) out Clear)) ∙ e) in
         let i = open-inputs (a .0) in
-        (settings-lengths (i .0), (i .1, room-clear (parcel - 32) out (a .1)))
+        (settings-lengths (i .0), (i .1, room-clear (parcel - 32) out Clear (a .1) .0))
 
   -- ---- their places are 0
 

@@ -4,6 +4,7 @@ use Prim.Native.Nat.{ℕ, _+_, _-_}
 use lib.Dec.{eqb, ltb}
 use Rattle.answers.specs.Answers.{line, room}
 use Rattle.answers.specs.declared.Check.{Check}
+use Rattle.answers.specs.declared.Check.the-variants.{Clear}
 use Rattle.answers.specs.declared.Ground.the-variants.{Mode, Rounds, KeyLength, NonceLength, HeaderLength, InputLength, TagMissing}
 
 -- mode 1 or 2
@@ -34,8 +35,8 @@ openInputs mode rounds key nonce header parcel next =
 
 -- seal, all: the last is room for the parcel
 unfoldable pub sealChecks : ℕ → ℕ → ℕ → ℕ → ℕ → ℕ → ℕ → Check
-sealChecks mode rounds key nonce header message out = sealInputs mode rounds key nonce header message (room (message + 32) out)
+sealChecks mode rounds key nonce header message out = sealInputs mode rounds key nonce header message (room (message + 32) out Clear)
 
 -- open, all but the tag's, which comes last: the last of these is room for the message
 unfoldable pub openChecks : ℕ → ℕ → ℕ → ℕ → ℕ → ℕ → ℕ → Check
-openChecks mode rounds key nonce header parcel out = openInputs mode rounds key nonce header parcel (room (parcel - 32) out)
+openChecks mode rounds key nonce header parcel out = openInputs mode rounds key nonce header parcel (room (parcel - 32) out Clear)

@@ -48,7 +48,7 @@ fn check_settings(mode: u32, rounds: u32, key: usize, nonce: usize, header: usiz
 }
 
 // Seal's checks but for the output's length.
-pub fn check_message(
+fn check_message(
     mode: u32,
     rounds: u32,
     key: usize,
@@ -69,7 +69,7 @@ pub fn check_message(
 }
 
 // Open's checks but for the output's length and the tag.
-pub fn check_parcel(
+fn check_parcel(
     mode: u32,
     rounds: u32,
     key: usize,

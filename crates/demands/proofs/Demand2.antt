@@ -19,41 +19,44 @@ use Rattle.mem.specs.Mem.{startOf}
 use Rattle.mem.proofs.Laws.{start-block}
 use Rattle.blockplan.specs.Parcel.{Mode, Lawful, parcelOf, messageOf, genuine, opened}
 use Rattle.blockplan.proofs.Parcels.{parcel-long, parcel-bytes, parcel-message, parcel-genuine, message-long, message-bytes, message-parcel}
-use Rattle.checks.specs.Checks.{sealInputs, openInputs, sealChecks, openChecks}
-use Rattle.checks.proofs.Clears.{seal-after, open-after, open-inputs, parcel-inputs, message-inputs}
+use Rattle.checks.specs.Checks.{isRounds, sealChecks, openChecks}
+use Rattle.checks.proofs.Clears.{settings-rounds, seal-after, open-after, seal-inputs, open-inputs, parcel-inputs, message-inputs}
 use Rattle.modes.specs.Modes.{modeOf}
 use Rattle.modes.proofs.Lawful.{mode-lawful}
 use Rattle.sealing.specs.Sealing.{verdict, sealFrom, openFrom}
-use Rattle.demands.specs.Demand2.{Message, Parcel, Seals, Opens, Refuses, HandsBack, Exactly, Demand2}
+use Rattle.demands.specs.Demand2.{Sealable, Openable, Seals, Opens, Refuses, HandsBack, Exactly, Demand2}
 
 length-zeros : (n : ℕ) → length (zeros n) ≡ n
 unfolding zeros
 length-zeros n = length-tab (λ i. 0) n
 
 -- room where there is room
-roomy : (needed lent : ℕ) → needed ≤ lent → room needed lent ≡ Clear
+roomy : (needed lent : ℕ) → needed ≤ lent → room needed lent Clear ≡ Clear
 unfolding room line lineAt
 roomy needed lent h = rw (le-ltb lent needed h)
 
-module _ (start : ℕ → List ℕ → List ℕ → List ℕ) (is-block : (rounds : ℕ) (key nonce : List ℕ) → Bytes key → Bytes nonce → Block (start rounds key nonce))
-    (mode rounds : ℕ) (key nonce header : List ℕ) where
+-- a start that is a block, for allowed round counts
+abbrev Blocks : (ℕ → List ℕ → List ℕ → List ℕ) → Type 0
+Blocks start = (rounds : ℕ) (key nonce : List ℕ) → isRounds rounds ≡ true → Bytes key → Bytes nonce → Block (start rounds key nonce)
+
+module _ (start : ℕ → List ℕ → List ℕ → List ℕ) (is-block : Blocks start) (mode rounds : ℕ) (key nonce header : List ℕ) where
   m : Mode
   m = modeOf mode rounds (start rounds key nonce)
 
-  law : Bytes key → Bytes nonce → Lawful m
+  law : isRounds rounds ≡ true → Bytes key → Bytes nonce → Lawful m
   unfolding m
-  law hk hn = mode-lawful mode rounds (start rounds key nonce) (is-block rounds key nonce hk hn)
+  law allowed hk hn = mode-lawful mode rounds (start rounds key nonce) (is-block rounds key nonce allowed hk hn)
 
-  seals : (message : List ℕ) → Message mode rounds key nonce header message → Seals mode rounds key nonce header start message (parcelOf m header message)
+  seals : (message : List ℕ) → Sealable mode rounds key nonce header message → Seals start mode rounds key nonce header message (parcelOf m header message)
   unfolding m sealFrom sealChecks checked
-  seals message 𝓜 out h = rw (passed-on _ _ (seal-after _ _ _ _ _ _ (room (length message + 32) (length out))) (𝓜 .clear), roomy (length message + 32) (length out) h)
+  seals message 𝓜 out h = rw (passed-on _ _ (seal-after _ _ _ _ _ _ (room (length message + 32) (length out) Clear)) (𝓜 .clear), roomy (length message + 32) (length out) h)
 
-  module _ (parcel : List ℕ) (𝓟 : Parcel mode rounds key nonce header parcel) where
+  module _ (parcel : List ℕ) (𝓟 : Openable mode rounds key nonce header parcel) where
     inputs : (32 ≤ length parcel) × (length parcel ≤ 65568)
     inputs = open-inputs _ _ _ _ _ _ (𝓟 .clear) .1
 
     law-here : Lawful m
-    law-here = law (𝓟 .key-bytes) (𝓟 .nonce-bytes)
+    law-here = law (settings-rounds _ _ _ _ _ (open-inputs _ _ _ _ _ _ (𝓟 .clear) .0)) (𝓟 .key-bytes) (𝓟 .nonce-bytes)
 
     long : length (messageOf m parcel) ≡ length parcel - 32
     long = message-long m law-here header parcel (inputs .0)
@@ -61,17 +64,17 @@ module _ (start : ℕ → List ℕ → List ℕ → List ℕ) (is-block : (round
     answers : (out : List ℕ) → length parcel - 32 ≤ length out
         → openFrom start mode rounds key nonce header parcel out ≡ verdict (length parcel - 32) (opened m header parcel out)
     unfolding m openFrom openChecks checked
-    answers out h = rw (passed-on _ _ (open-after _ _ _ _ _ _ (room (length parcel - 32) (length out))) (𝓟 .clear), roomy (length parcel - 32) (length out) h)
+    answers out h = rw (passed-on _ _ (open-after _ _ _ _ _ _ (room (length parcel - 32) (length out) Clear)) (𝓟 .clear), roomy (length parcel - 32) (length out) h)
 
-    opens : genuine m header parcel ≡ true → Opens mode rounds key nonce header start parcel (messageOf m parcel)
+    opens : genuine m header parcel ≡ true → Opens start mode rounds key nonce header parcel (messageOf m parcel)
     unfolding verdict opened
     opens e out h = answers out (subst (λ (k : ℕ). k ≤ length out) long h) ∙ rw (e, long)
 
-    refuses : genuine m header parcel ≡ false → Refuses mode rounds key nonce header start parcel
+    refuses : genuine m header parcel ≡ false → Refuses start mode rounds key nonce header parcel
     unfolding verdict opened
     refuses e out h = answers out h ∙ rw e
 
-    message-is : Message mode rounds key nonce header (messageOf m parcel)
+    message-is : Sealable mode rounds key nonce header (messageOf m parcel)
     message-is = record {
       clear = rw long (message-inputs _ _ _ _ _ (length parcel) (𝓟 .clear));
       key-bytes = 𝓟 .key-bytes;
@@ -79,11 +82,11 @@ module _ (start : ℕ → List ℕ → List ℕ → List ℕ) (is-block : (round
       bytes = message-bytes m law-here header parcel (𝓟 .bytes);
     }
 
-  module _ (message : List ℕ) (𝓜 : Message mode rounds key nonce header message) where
+  module _ (message : List ℕ) (𝓜 : Sealable mode rounds key nonce header message) where
     law-there : Lawful m
-    law-there = law (𝓜 .key-bytes) (𝓜 .nonce-bytes)
+    law-there = law (settings-rounds _ _ _ _ _ (seal-inputs _ _ _ _ _ _ (𝓜 .clear) .0)) (𝓜 .key-bytes) (𝓜 .nonce-bytes)
 
-    parcel-is : Parcel mode rounds key nonce header (parcelOf m header message)
+    parcel-is : Openable mode rounds key nonce header (parcelOf m header message)
     parcel-is = record {
       clear = rw (parcel-long m law-there header message) (parcel-inputs _ _ _ _ _ (length message) (𝓜 .clear));
       key-bytes = 𝓜 .key-bytes;
@@ -91,17 +94,17 @@ module _ (start : ℕ → List ℕ → List ℕ → List ℕ) (is-block : (round
       bytes = parcel-bytes m law-there header message (𝓜 .bytes);
     }
 
-    hands-back : HandsBack mode rounds key nonce header start message
+    hands-back : HandsBack start mode rounds key nonce header message
     hands-back = (
       parcelOf m header message,
       parcel-is,
       seals message 𝓜,
-      subst (Opens mode rounds key nonce header start (parcelOf m header message)) (parcel-message m law-there header message (𝓜 .bytes))
+      subst (Opens start mode rounds key nonce header (parcelOf m header message)) (parcel-message m law-there header message (𝓜 .bytes))
           (opens (parcelOf m header message) parcel-is (parcel-genuine m law-there header message (𝓜 .bytes))),
     )
 
     -- seal writes one parcel for a message
-    one-parcel : (parcel : List ℕ) → Seals mode rounds key nonce header start message parcel → parcel ≡ parcelOf m header message
+    one-parcel : (parcel : List ℕ) → Seals start mode rounds key nonce header message parcel → parcel ≡ parcelOf m header message
     one-parcel parcel e =
         let n = length message + 32 in
         let room : n ≤ length (zeros n) = omega (arith, length-zeros n) in
@@ -110,12 +113,12 @@ module _ (start : ℕ → List ℕ → List ℕ → List ℕ) (is-block : (round
         = ap (λ (r : Answer × List ℕ). r .1) (sym (e (zeros n) room) ∙ seals message 𝓜 (zeros n) room) in
         sym (append-nil parcel) ∙ (rw rest at alike) ∙ append-nil (parcelOf m header message)
 
-  by-tag : (parcel : List ℕ) → Parcel mode rounds key nonce header parcel → (t : Bool) → genuine m header parcel ≡ t → Exactly mode rounds key nonce header start parcel
+  by-tag : (parcel : List ℕ) → Openable mode rounds key nonce header parcel → (t : Bool) → genuine m header parcel ≡ t → Exactly start mode rounds key nonce header parcel
   by-tag parcel 𝓟 true e =
       inl (
         messageOf m parcel,
         message-is parcel 𝓟,
-        subst (Seals mode rounds key nonce header start (messageOf m parcel)) (message-parcel m (law-here parcel 𝓟) header parcel (𝓟 .bytes) e)
+        subst (Seals start mode rounds key nonce header (messageOf m parcel)) (message-parcel m (law-here parcel 𝓟) header parcel (𝓟 .bytes) e)
             (seals (messageOf m parcel) (message-is parcel 𝓟)),
         opens parcel 𝓟 e,
       )
@@ -126,12 +129,12 @@ module _ (start : ℕ → List ℕ → List ℕ → List ℕ) (is-block : (round
         refuses parcel 𝓟 e,
       )
 
--- for every start that is a block
-under : (start : ℕ → List ℕ → List ℕ → List ℕ) → ((rounds : ℕ) (key nonce : List ℕ) → Bytes key → Bytes nonce → Block (start rounds key nonce)) → Demand2 start
-under start is-block = record {
+-- for every start that is a block where the round count is allowed
+for-start : (start : ℕ → List ℕ → List ℕ → List ℕ) → Blocks start → Demand2 start
+for-start start is-block = record {
   hands-back = λ mode rounds key nonce header message 𝓜. hands-back start is-block mode rounds key nonce header message 𝓜;
   exactly = λ mode rounds key nonce header parcel 𝓟. by-tag start is-block mode rounds key nonce header parcel 𝓟 _ refl;
 }
 
 pub demand2 : Demand2 startOf
-demand2 = under startOf start-block
+demand2 = for-start startOf (λ rounds key nonce allowed. start-block rounds key nonce)

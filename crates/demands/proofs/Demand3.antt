@@ -12,6 +12,7 @@ use Rattle.words.specs.Sequence.{zeros, tab, times}
 use Rattle.words.specs.Block.{Block, blockOf, bytesOf, xorBytes}
 use Rattle.words.proofs.Blocks.{length-bytesOf, bytes-bytesOf, block-blockOf, blockOf-bytesOf, bytes-are, bytesOf-xor, blockOf-xor, length-xorBytes, bytes-xorBytes}
 use Rattle.answers.specs.Answers.{lineAt, line, room, checked}
+use Rattle.answers.specs.declared.Check.the-variants.{Clear}
 use Rattle.answers.specs.declared.Answer.{Answer}
 use Rattle.answers.specs.declared.Answer.the-variants.{Done}
 use Rattle.words.specs.Undo.{Undo}
@@ -58,14 +59,14 @@ net-in-range kind l h =
 -- ---- what walk and jump answer for a start and a list of steps
 
 module _ (start steps out : List ℕ) (a : Start start) (l : Steps steps) where
-  walk-answers : walkCall start steps out ≡ checked (room 128 (length out)) out (Done 128, bytesOf (walked steps (blockOf start)) ++ drop 128 out)
+  walk-answers : walkCall start steps out ≡ checked (room 128 (length out) Clear) out (Done 128, bytesOf (walked steps (blockOf start)) ++ drop 128 out)
   unfolding walkCall walkChecks line lineAt
   walk-answers =
       let none : firstBad steps ≡ length steps = all-steps steps (l .low) (l .high) in
       rw (eq-eqb (length start) 128 (a .long), le-ltb 4096 (length steps) (l .most), none, le-ltb (length steps) (length steps) (omega arith))
 
   jump-answers : jumpCall start (net 1 steps) (net 2 steps) (net 3 steps) out
-      ≡ checked (room 128 (length out)) out (Done 128, bytesOf (jumped (net 1 steps) (net 2 steps) (net 3 steps) (blockOf start)) ++ drop 128 out)
+      ≡ checked (room 128 (length out) Clear) out (Done 128, bytesOf (jumped (net 1 steps) (net 2 steps) (net 3 steps) (blockOf start)) ++ drop 128 out)
   unfolding jumpCall jumpChecks line lineAt
   jump-answers =
       rw (eq-eqb (length start) 128 (a .long), net-in-range 1 steps (l .most), net-in-range 2 steps (l .most), net-in-range 3 steps (l .most))
@@ -92,7 +93,7 @@ walk-is-jump : (start steps out : List ℕ) → Start start → Steps steps
     → walkCall start steps out ≡ jumpCall start (net 1 steps) (net 2 steps) (net 3 steps) out
 walk-is-jump start steps out a l =
     walk-answers start steps out a l
-    ∙ ap (λ (b : List ℕ). checked (room 128 (length out)) out (Done 128, bytesOf b ++ drop 128 out)) (leads steps (blockOf start) (block start a))
+    ∙ ap (λ (b : List ℕ). checked (room 128 (length out) Clear) out (Done 128, bytesOf b ++ drop 128 out)) (leads steps (blockOf start) (block start a))
     ∙ sym (jump-answers start steps out a l)
 
 zero-nets : (start l : List ℕ) → Start start → Steps l → net 1 l ≡ pos 0 → net 2 l ≡ pos 0 → net 3 l ≡ pos 0 → mask start l ≡ start
@@ -163,7 +164,7 @@ module _ (kind : ℕ) (s : List ℕ) (p : 1 ≤ kind) (q : kind ≤ 3) (a : Star
       ∙ sym before-is
 
 only-seven : (start steps out : List ℕ) → Start start → Steps steps
-    → walkCall start steps out ≡ checked (room 128 (length out)) out (Done 128, mask start steps ++ drop 128 out)
+    → walkCall start steps out ≡ checked (room 128 (length out) Clear) out (Done 128, mask start steps ++ drop 128 out)
 only-seven start steps out a l = walk-answers start steps out a l ∙ rw (mask-is start steps a l)
 
 pub demand3 : Demand3

@@ -14,52 +14,52 @@ use Rattle.sealing.specs.Sealing.{sealFrom, openFrom}
 
 module _ (mode rounds : ℕ) (key nonce header : List ℕ) where
   -- settings and a message that seal refuses on no ground, given room
-  pub record Message (message : List ℕ) : Type 0 where
+  pub record Sealable (message : List ℕ) : Type 0 where
     pub clear : sealInputs mode rounds (length key) (length nonce) (length header) (length message) Clear ≡ Clear
     pub key-bytes : Bytes key
     pub nonce-bytes : Bytes nonce
     pub bytes : Bytes message
 
   -- settings and a parcel that open refuses on no ground but 9, given room
-  pub record Parcel (parcel : List ℕ) : Type 0 where
+  pub record Openable (parcel : List ℕ) : Type 0 where
     pub clear : openInputs mode rounds (length key) (length nonce) (length header) (length parcel) Clear ≡ Clear
     pub key-bytes : Bytes key
     pub nonce-bytes : Bytes nonce
     pub bytes : Bytes parcel
 
-  module _ (start : ℕ → List ℕ → List ℕ → List ℕ) where
-    -- seal writes that parcel for that message, into every output that has room for it
-    abbrev pub Seals : List ℕ → List ℕ → Type 0
-    Seals message parcel =
-        (out : List ℕ) → length message + 32 ≤ length out
-        → sealFrom start mode rounds key nonce header message out ≡ (Done (length message + 32), parcel ++ drop (length message + 32) out)
+module _ (start : ℕ → List ℕ → List ℕ → List ℕ) (mode rounds : ℕ) (key nonce header : List ℕ) where
+  -- seal writes that parcel for that message, into every output that has room for it
+  abbrev pub Seals : List ℕ → List ℕ → Type 0
+  Seals message parcel =
+      (out : List ℕ) → length message + 32 ≤ length out
+      → sealFrom start mode rounds key nonce header message out ≡ (Done (length message + 32), parcel ++ drop (length message + 32) out)
 
-    -- open writes that message for that parcel, into every output that has room for it
-    abbrev pub Opens : List ℕ → List ℕ → Type 0
-    Opens parcel message =
-        (out : List ℕ) → length message ≤ length out
-        → openFrom start mode rounds key nonce header parcel out ≡ (Done (length message), message ++ drop (length message) out)
+  -- open writes that message for that parcel, into every output that has room for it
+  abbrev pub Opens : List ℕ → List ℕ → Type 0
+  Opens parcel message =
+      (out : List ℕ) → length message ≤ length out
+      → openFrom start mode rounds key nonce header parcel out ≡ (Done (length message), message ++ drop (length message) out)
 
-    -- open refuses that parcel with 9, and leaves zeros where a message would have stood
-    abbrev pub Refuses : List ℕ → Type 0
-    Refuses parcel =
-        (out : List ℕ) → length parcel - 32 ≤ length out
-        → openFrom start mode rounds key nonce header parcel out
-        ≡ (Refused TagDiffers 0, zeros (length parcel - 32) ++ drop (length parcel - 32) out)
+  -- open refuses that parcel with 9, and leaves zeros where a message would have stood
+  abbrev pub Refuses : List ℕ → Type 0
+  Refuses parcel =
+      (out : List ℕ) → length parcel - 32 ≤ length out
+      → openFrom start mode rounds key nonce header parcel out
+      ≡ (Refused TagDiffers 0, zeros (length parcel - 32) ++ drop (length parcel - 32) out)
 
-    -- open of what seal writes hands back that message
-    abbrev pub HandsBack : List ℕ → Type 0
-    HandsBack message = (parcel : List ℕ) × Parcel parcel × Seals message parcel × Opens parcel message
+  -- open of what seal writes hands back that message
+  abbrev pub HandsBack : List ℕ → Type 0
+  HandsBack message = (parcel : List ℕ) × Openable mode rounds key nonce header parcel × Seals message parcel × Opens parcel message
 
-    -- open succeeds exactly where the parcel is what seal writes for some message, the message that open writes; every other is refused with 9
-    abbrev pub Exactly : List ℕ → Type 0
-    Exactly parcel =
-        ((message : List ℕ) × Message message × Seals message parcel × Opens parcel message)
-        ⊎ (((message : List ℕ) → Message message → Seals message parcel → ⊥) × Refuses parcel)
+  -- open succeeds exactly where the parcel is what seal writes for some message, the message that open writes; every other is refused with 9
+  abbrev pub Exactly : List ℕ → Type 0
+  Exactly parcel =
+      ((message : List ℕ) × Sealable mode rounds key nonce header message × Seals message parcel × Opens parcel message)
+      ⊎ (((message : List ℕ) → Sealable mode rounds key nonce header message → Seals message parcel → ⊥) × Refuses parcel)
 
 -- demand 2, of seal and open under a start; `Demand2 startOf` is that of the calls
 pub record Demand2 (start : ℕ → List ℕ → List ℕ → List ℕ) : Type 0 where
-  pub hands-back : (mode rounds : ℕ) (key nonce header message : List ℕ) → Message mode rounds key nonce header message
-      → HandsBack mode rounds key nonce header start message
-  pub exactly : (mode rounds : ℕ) (key nonce header parcel : List ℕ) → Parcel mode rounds key nonce header parcel
-      → Exactly mode rounds key nonce header start parcel
+  pub hands-back : (mode rounds : ℕ) (key nonce header message : List ℕ) → Sealable mode rounds key nonce header message
+      → HandsBack start mode rounds key nonce header message
+  pub exactly : (mode rounds : ℕ) (key nonce header parcel : List ℕ) → Openable mode rounds key nonce header parcel
+      → Exactly start mode rounds key nonce header parcel

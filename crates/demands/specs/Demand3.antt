@@ -9,6 +9,7 @@ use lib.ListN.{length, getD, drop}
 use Rattle.words.specs.Sequence.{zeros}
 use Rattle.words.specs.Block.{Bytes, xorBytes}
 use Rattle.answers.specs.Answers.{room, checked}
+use Rattle.answers.specs.declared.Check.the-variants.{Clear}
 use Rattle.answers.specs.declared.Answer.the-variants.{Done}
 use Rattle.walking.specs.Walking.{walkCall, jumpCall}
 
@@ -43,11 +44,11 @@ pub record Demand3 : Type 0 where
       → walkCall start steps out ≡ jumpCall start (net 1 steps) (net 2 steps) (net 3 steps) out
   -- it can be refused with 7 alone, and then changes no byte; else it writes the mask and leaves the rest
   pub only-seven : (start steps out : List ℕ) → Start start → Steps steps
-      → walkCall start steps out ≡ checked (room 128 (length out)) out (Done 128, mask start steps ++ drop 128 out)
+      → walkCall start steps out ≡ checked (room 128 (length out) Clear) out (Done 128, mask start steps ++ drop 128 out)
   -- and so can the jump by the list's net counts
   pub jump-only-seven : (start steps out : List ℕ) → Start start → Steps steps
       → jumpCall start (net 1 steps) (net 2 steps) (net 3 steps) out
-      ≡ checked (room 128 (length out)) out (Done 128, mask start steps ++ drop 128 out)
+      ≡ checked (room 128 (length out) Clear) out (Done 128, mask start steps ++ drop 128 out)
   -- so two lists with the same net counts end alike
   pub same-nets : (start l m out : List ℕ) → Start start → Steps l → Steps m
       → net 1 l ≡ net 1 m → net 2 l ≡ net 2 m → net 3 l ≡ net 3 m → walkCall start l out ≡ walkCall start m out

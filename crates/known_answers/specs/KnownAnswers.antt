@@ -1,7 +1,8 @@
--- The bench sheet's cases that are proved, P1 to P11, as rows of one table (document 01, "Bench sheet"). Assumes nothing.
+-- The bench sheet's cases that are proved, P1 to P11 and the limits of the checks, as rows of one table (document 01, "Bench sheet"). Assumes nothing.
 use mathlib.Core.Path.{_≡_}
 use mathlib.Core.List.{List, [], _∷_, _++_}
 use Prim.Native.Nat.{ℕ, suc, _<_}
+use lib.IntN.{pos, negsuc}
 use lib.ListN.{length, getD, set}
 use Rattle.words.specs.Sequence.{tab, zeros}
 use Rattle.words.specs.Block.{bytesOf, zeroBlock}
@@ -12,6 +13,11 @@ use Rattle.mem.specs.Mem.{startOf}
 use Rattle.blockplan.specs.Parcel.{parcelOf}
 use Rattle.opp.specs.Opp.{padded}
 use Rattle.modes.specs.Modes.{modeOf}
+use Rattle.answers.specs.Answers.{groundNumber}
+use Rattle.answers.specs.declared.Check.{Check}
+use Rattle.answers.specs.declared.Check.the-variants.{Clear, Fails}
+use Rattle.checks.specs.Checks.{sealChecks, openChecks}
+use Rattle.walking.specs.Walking.{walkChecks, jumpChecks}
 
 -- a case: what the definitions give, and what the sheet says
 pub record Row : Type 0 where
@@ -36,7 +42,12 @@ full = tab (λ i. suc i) 127
 unfoldable pub sealed : ℕ → ℕ → List ℕ → List ℕ
 sealed mode rounds message = parcelOf (modeOf mode rounds (startOf rounds (zeros 32) (zeros 16))) [] message
 
--- the lines P1 to P11, and maskwalk's example with "g"
+-- what checks find: the number and the place, or 0 and 0
+abbrev pub found : Check → List ℕ
+found Clear = 0 ∷ 0 ∷ []
+found (Fails ground place) = groundNumber ground ∷ place ∷ []
+
+-- the lines P1 to P11, maskwalk's example with "g", and the limits that the checks keep
 unfoldable pub table : List Row
 table =
     record { got = g 1 0 0 0; want = 0x101 ∷ 0x0202000200020200 ∷ 0x0101000100010000 ∷ 0x0101000000010000 ∷ [] }  -- P1
@@ -55,6 +66,16 @@ table =
     ∷ record { got = sealed 1 4 (zeros 128); want = zeros 160 }  -- P11, both round counts
     ∷ record { got = sealed 1 6 (zeros 128); want = zeros 160 }
     ∷ record { got = gamma (word 0 1); want = set (set (word 0 1) 14 0x0020000000000000) 15 0x0020000000000000 }  -- maskwalk's example
+    ∷ record { got = found (sealChecks 1 5 31 16 0 0 32); want = 2 ∷ 0 ∷ [] }  -- rounds 5 and key 31 bytes
+    ∷ record { got = found (sealChecks 1 4 32 16 4096 65536 65568); want = 0 ∷ 0 ∷ [] }  -- header 4,096, message 65,536
+    ∷ record { got = found (sealChecks 2 6 32 16 4097 65536 65568); want = 5 ∷ 0 ∷ [] }
+    ∷ record { got = found (sealChecks 2 6 32 16 4096 65537 65569); want = 6 ∷ 0 ∷ [] }
+    ∷ record { got = found (sealChecks 1 4 32 16 0 128 159); want = 7 ∷ 0 ∷ [] }  -- output 159 for a message of 128
+    ∷ record { got = found (openChecks 1 4 32 16 0 31 0); want = 8 ∷ 0 ∷ [] }  -- parcel of 31 bytes, and of 32
+    ∷ record { got = found (openChecks 2 6 32 16 0 32 0); want = 0 ∷ 0 ∷ [] }
+    ∷ record { got = found (jumpChecks 128 (pos 65536) (negsuc 65535) (pos 0) 128); want = 0 ∷ 0 ∷ [] }  -- net counts 65,536 and -65,536
+    ∷ record { got = found (jumpChecks 128 (pos 0) (pos 65537) (pos 0) 128); want = 11 ∷ 0 ∷ [] }
+    ∷ record { got = found (walkChecks 128 (1 ∷ 7 ∷ 0 ∷ []) 128); want = 12 ∷ 1 ∷ [] }  -- steps 1, 7, 0
     ∷ []
 
 -- row i of the table

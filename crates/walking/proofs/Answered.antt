@@ -22,14 +22,14 @@ walk-clear start steps out e =
     let a = line-clear (not (eqb start 128)) StartLength _ e in
     let b = line-clear (ltb 4096 (length steps)) ListLength _ (a .1) in
     let c = lineAt-clear (ltb (firstBad steps) (length steps)) StepByte (firstBad steps) _ (b .1) in
-    (eqb-true start 128 (not-false (eqb start 128) (a .0)), room-clear 128 out (c .1))
+    (eqb-true start 128 (not-false (eqb start 128) (a .0)), room-clear 128 out Clear (c .1) .0)
 
 pub jump-clear : (start : ℕ) (i j k : ℤ) (out : ℕ) → jumpChecks start i j k out ≡ Clear → (start ≡ 128) × (128 ≤ out)
 unfolding jumpChecks
 jump-clear start i j k out e =
     let a = line-clear (not (eqb start 128)) StartLength _ e in
     let b = line-clear (not (inRange i && (inRange j && inRange k))) NetCount _ (a .1) in
-    (eqb-true start 128 (not-false (eqb start 128) (a .0)), room-clear 128 out (b .1))
+    (eqb-true start 128 (not-false (eqb start 128) (a .0)), room-clear 128 out Clear (b .1) .0)
 
 -- ---- the answer is small
 

@@ -11,6 +11,7 @@ use Rattle.masks.specs.Steps.{alpha, beta, gamma}
 use Rattle.back_steps.specs.BackSteps.{backAlpha, backBeta, backGamma}
 use Rattle.answers.specs.Answers.{lineAt, line, room, checked}
 use Rattle.answers.specs.declared.Check.{Check}
+use Rattle.answers.specs.declared.Check.the-variants.{Clear}
 use Rattle.answers.specs.declared.Ground.the-variants.{StartLength, NetCount, StepByte, ListLength}
 use Rattle.answers.specs.declared.Answer.{Answer}
 use Rattle.answers.specs.declared.Answer.the-variants.{Done}
@@ -59,14 +60,14 @@ walkChecks start steps out =
     line (not (eqb start 128)) StartLength
     (line (ltb 4096 (length steps)) ListLength
     (lineAt (ltb (firstBad steps) (length steps)) StepByte (firstBad steps)
-    (room 128 out)))
+    (room 128 out Clear)))
 
 -- jump's: 10, 11, 7
 unfoldable pub jumpChecks : ℕ → ℤ → ℤ → ℤ → ℕ → Check
 jumpChecks start i j k out =
     line (not (eqb start 128)) StartLength
     (line (not (inRange i && (inRange j && inRange k))) NetCount
-    (room 128 out))
+    (room 128 out Clear))
 
 -- what walk answers and leaves in the output: where its checks are clear the block reached; output beyond it is unchanged
 unfoldable pub walkCall : List ℕ → List ℕ → List ℕ → Answer × List ℕ
