@@ -1,5 +1,5 @@
--- The words of a table that the bits of a number choose: the choice keeps exclusive or, one bit alone chooses its row, and a form of
--- it is computed fast. Assumes nothing.
+-- The words of a table that the bits of a number choose: the choice keeps exclusive or, and one bit alone chooses its row.
+-- Assumes nothing.
 use mathlib.Core.Path.{_≡_, refl, sym, ap, ap₂, _∙_}
 use mathlib.Core.Bool.{true}
 use mathlib.Core.List.{List}
@@ -10,7 +10,7 @@ use native.Mathlib.Decide.{decLt}
 use lib.Dec.{eqb, lit<}
 use lib.ListN.{length, getD, List·getD-eq-default}
 use lib.Pow.{pow-pos, pow-lt, pow-add, shl-shr}
-use lib.Bits.{bitXor, xor-lt, xor-self, xor-zero-l, xor-zero-r, xor-shr, xor-mod}
+use lib.Bits.{bitXor, xor-lt, xor-self, xor-zero-r, xor-shr, xor-mod}
 use Rattle.words.proofs.Truth.{allBelow, equal-below}
 use Rattle.words.proofs.Xor.{Digit, off, on, digit, xor-swap}
 use Rattle.words.proofs.Linear.{OnWord, zero-kept}
@@ -87,28 +87,6 @@ module _ (t : List ℕ) (small : (i : ℕ) → getD t i 0 < 2 ^ 64) (at step : �
     | no q ↦ let e : j ≡ n = omega arith in
         rw (e, bit-on n, below n n (omega arith), mul-one) (xor-zero-r (getD t (at + step * n) 0))
   ]
-
--- ---- the same, computed fast
-
--- r, exclusive or the word w where the bit is on
-unfoldable pub ifOn : ℕ → ℕ → ℕ → ℕ
-ifOn zero w r = r
-ifOn (suc d) w r = bitXor w r
-
--- the choice, in which the rows of the bits that are off are not read
-unfoldable pub sparse : List ℕ → ℕ → ℕ → ℕ → ℕ → ℕ
-sparse t at step e zero = 0
-sparse t at step e (suc n) = ifOn (e / 2 ^ n % 2) (getD t (at + step * n) 0) (sparse t at step e n)
-
-times-ifOn : (w r d : ℕ) → Digit d → bitXor (w * d) r ≡ ifOn d w r
-unfolding ifOn
-times-ifOn w r d off = rw mul-zero (xor-zero-l r)
-times-ifOn w r d on = rw mul-one
-
-pub chosen-sparse : (t : List ℕ) (at step e n : ℕ) → chosen t at step e n ≡ sparse t at step e n
-unfolding chosen sparse
-chosen-sparse t at step e zero = refl
-chosen-sparse t at step e (suc n) = rw (chosen-sparse t at step e n) (times-ifOn (getD t (at + step * n) 0) (sparse t at step e n) (e / 2 ^ n % 2) (bit e n))
 
 -- ---- the words of a table
 

@@ -14,7 +14,7 @@ use Rattle.words.proofs.Truth.{allBelow, equal-below}
 use Rattle.words.proofs.Linear.{OnWord, OnPair, joined, onJoined, word-id, word-xor, word-after, word-rotL, word-shl, word-same, pair-xor, pair-after, pair-same}
 use Rattle.back_steps.specs.Tables.{betaTable, gammaTable}
 use Rattle.back_steps.specs.BackSteps.{chosen, betaWord, gammaWord}
-use Rattle.back_steps.proofs.Chosen.{word-chosen, chosen-zero, chosen-unit, ifOn, sparse, chosen-sparse, small-words}
+use Rattle.back_steps.proofs.Chosen.{word-chosen, chosen-zero, chosen-unit, small-words}
 
 -- the two maps that alpha's new word is made of
 rotated : OnWord (rotL 53)
@@ -121,25 +121,13 @@ gamma-solved =
     (pair-after gammaY (gammaWord gammaTable 0) (gammaWord gammaTable 1) pair-gammaY (pair-gammaWord 0) (pair-gammaWord 1))
     (λ k h. ap₂ (λ (x y : ℕ). joined (gammaX x y) (gammaY x y)) (gamma-unit 0 k h) (gamma-unit 1 k h) ∙ gamma-rule k h)
 
--- the words that are solved for, as the test below computes them
-unfoldable sparseWord : ℕ → ℕ → ℕ → ℕ
-sparseWord at e f = bitXor (sparse gammaTable at 2 e 64) (sparse gammaTable (at + 128) 2 f 64)
-
-word-sparse : (at e f : ℕ) → gammaWord gammaTable at e f ≡ sparseWord at e f
-unfolding gammaWord sparseWord
-word-sparse at e f = ap₂ bitXor (chosen-sparse gammaTable at 2 e 64) (chosen-sparse gammaTable (at + 128) 2 f 64)
-
 -- a map of what two words solve
 abbrev ofSides : (ℕ → ℕ → ℕ) → ℕ → ℕ → ℕ
 ofSides f x y = f (gammaX x y) (gammaY x y)
 
-gamma-test : (k : ℕ) → k < 128 → onJoined (ofSides (sparseWord 0)) (ofSides (sparseWord 1)) (2 ^ k) ≡ 2 ^ k
-unfolding gammaTable sparse ifOn allBelow gammaX gammaY rotL rotR shl joined onJoined sparseWord
-gamma-test = equal-below (λ k. onJoined (ofSides (sparseWord 0)) (ofSides (sparseWord 1)) (2 ^ k)) (λ k. 2 ^ k) 128 refl
-
 gamma-units : (k : ℕ) → k < 128 → onJoined (ofSides (gammaWord gammaTable 0)) (ofSides (gammaWord gammaTable 1)) (2 ^ k) ≡ 2 ^ k
-unfolding onJoined
-gamma-units k h = ap₂ joined (word-sparse 0 _ _) (word-sparse 1 _ _) ∙ gamma-test k h
+unfolding gammaTable chosen allBelow gammaX gammaY rotL rotR shl joined onJoined gammaWord
+gamma-units = equal-below (λ k. onJoined (ofSides (gammaWord gammaTable 0)) (ofSides (gammaWord gammaTable 1)) (2 ^ k)) (λ k. 2 ^ k) 128 refl
 
 pub gamma-found : (x y : ℕ) → x < 2 ^ 64 → y < 2 ^ 64
     → (gammaWord gammaTable 0 (gammaX x y) (gammaY x y) ≡ x) × (gammaWord gammaTable 1 (gammaX x y) (gammaY x y) ≡ y)

@@ -6,10 +6,10 @@ use native.Mathlib.Omega.{arith}
 use lib.IntN.{ℤ}
 use borrow.Author.Tests.{ne-eqb}
 use Rattle.words.specs.Sequence.{times}
-use Rattle.words.specs.Block.{Block, xorBlock}
+use Rattle.words.specs.Block.{Block}
 use Rattle.words.proofs.Maps.{Keeps, Commute, turn, undo-same, commute-back}
 use Rattle.masks.specs.Steps.{alpha, beta, gamma}
-use Rattle.masks.proofs.Laws.{alpha-beta, alpha-gamma, beta-gamma}
+use Rattle.masks.proofs.Laws.{Linear, alpha-beta, alpha-gamma, beta-gamma}
 use Rattle.back_steps.specs.BackSteps.{backAlpha, backBeta, backGamma}
 use Rattle.back_steps.proofs.BackAlpha.{alpha-undo}
 use Rattle.back_steps.proofs.Undoing.{beta-undo, gamma-undo}
@@ -121,7 +121,7 @@ leads [] s b = nowhere s
 leads (k ∷ l) s b = leads l (step k s) (step-keeps k s b) ∙ ahead k l s b
 
 -- a list keeps exclusive or
-pub walked-linear : (l s t : List ℕ) → Block s → Block t → walked l (xorBlock s t) ≡ xorBlock (walked l s) (walked l t)
+pub walked-linear : (l : List ℕ) → Linear (walked l)
 unfolding walked
 walked-linear [] s t b d = refl
 walked-linear (k ∷ l) s t b d =

@@ -1,5 +1,5 @@
--- The run of words that the masks after alpha steps are windows of (document 02, card 6); nothing of document 01 rests on it.
--- Assumes nothing.
+-- The run of words that the masks after alpha steps are windows of (document 02, card 6); of document 01 only the proofs of the back
+-- steps use it. Assumes nothing.
 use mathlib.Core.List.{List, [], _∷_, _++_}
 use Prim.Native.Nat.{ℕ, zero, suc, _+_}
 use lib.ListN.{getD}
