@@ -6,8 +6,9 @@ use Prim.Native.Nat.{ℕ, _+_, _-_, _*_, _≤_, _<_}
 use native.Mathlib.Omega.{arith}
 use lib.ListN.{length, drop, length-drop, drop-of-length-le}
 use borrow.Author.Tests.{lt-ltb, le-ltb}
+use Rattle.words.specs.Sequence.{tab, zeros}
 use Rattle.words.specs.Block.{Block, Bytes, blockOf}
-use Rattle.words.proofs.Lists.{zero-more}
+use Rattle.words.proofs.Lists.{zeros-more}
 use Rattle.words.proofs.Blocks.{bytes-drop, block-blockOf, blockOf-ext}
 use Rattle.blockplan.specs.Plan.{whole, left, hasLeft, blockAt}
 
@@ -47,4 +48,5 @@ module _ (s : List ℕ) where
 
 -- a zero byte more is the same block
 pub padded-zero : (s : List ℕ) → blockOf (s ++ (0 ∷ [])) ≡ blockOf s
-padded-zero s = blockOf-ext (s ++ (0 ∷ [])) s (zero-more s)
+unfolding zeros tab
+padded-zero s = blockOf-ext (s ++ zeros 1) s (zeros-more s 1)

@@ -8,14 +8,14 @@ use borrow.Rule.Slice.PartMut.{putMid}
 use Rattle.words.specs.Sequence.{times}
 use Rattle.words.specs.Block.{Block, Bytes, bytesOf, xorBlock, xorBytes, zeroBlock}
 use Rattle.masks.specs.Steps.{beta, gamma}
-use Rattle.mem.specs.Mem.{maskAt, encipher, E, D}
+use Rattle.mem.specs.Mem.{maskAt, encipher, E}
 use Rattle.mem.proofs.Laws.{mask-beta, E-undo}
 use Rattle.blockplan.specs.Plan.{whole, left, hasLeft, blockAt, xorOver, xorIf, tagBytes}
 use Rattle.blockplan.specs.Pass.{madeAt, plainAt, under, planned, stepping, Passed}
 use Rattle.blockplan.proofs.Sums.{xorOver-ext}
 use Rattle.blockplan.proofs.Leftovers.{no-left, some-left, block-blockAt}
 use Rattle.blockplan.proofs.Ciphered.{whole-ciphered, left-ciphered, hasLeft-ciphered, blockAt-ciphered, written-whole, written-left}
-use Rattle.blockplan.proofs.Passes.{stepping-planned, passed-agree}
+use Rattle.blockplan.proofs.Passes.{under-planned, stepping-planned, passed-agree}
 use Rattle.opp.specs.Opp.{padded, oppStream, oppSum, oppCheck, oppTag}
 use Rattle.opp.specs.Pass.{written, plain, AllPassed}
 
@@ -32,8 +32,10 @@ module _ (rounds : ℕ) (start s : List ℕ) (l : Block start) where
 
   module _ (h : Bytes s) where
     opened-at : (i : ℕ) → i < whole s → blockAt (written true rounds start s) i ≡ plainAt true (turn true) s i
-    unfolding written plainAt madeAt under planned D
-    opened-at i p = blockAt-ciphered (turn true) (oppStream rounds start) s i p (E-undo rounds start l i 0 1 .back-keeps (blockAt s i) (block-blockAt s i h))
+    unfolding written plainAt madeAt
+    opened-at i p =
+        blockAt-ciphered (turn true) (oppStream rounds start) s i p
+        (rw (under-planned true rounds start i 0 1 (blockAt s i)) (E-undo rounds start l i 0 1 .back-keeps (blockAt s i) (block-blockAt s i h)))
 
     -- Check over the message, from what the pass has in hand
     check-is : (opening : Bool) → oppCheck (plain opening rounds start s)

@@ -1,5 +1,5 @@
 -- Two blocks in one turn: two more pieces, two more blocks in a sum, two more steps. Assumes nothing.
-use mathlib.Core.Path.{_≡_, refl, sym, ap, _∙_}
+use mathlib.Core.Path.{_≡_, refl, sym, _∙_}
 use mathlib.Core.Bool.{Bool}
 use mathlib.Core.List.{List, _++_, append-assoc}
 use Prim.Native.Nat.{ℕ, suc, _+_, _-_, _*_}
@@ -29,10 +29,7 @@ module _ (i : ℕ) where
       let m : i + 1 ≡ suc i = omega arith in
       let far : w * i + (w + w) ≡ w * suc (suc i) = rw (mul-suc, mul-suc) (omega arith) in
       fronted (w * i) (w + w) (cat f i) (f i ++ f (i + 1)) old xs ys (length-cat f w i hw) e (q ∙ sym (append-assoc (f i) (f (i + 1)) _))
-      ∙ rw (far, n, m)
-      (ap (λ (t : List ℕ). cat f i ++ t) (append-assoc (f i) (f (suc i)) (drop (w * suc (suc i)) old))
-      ∙ sym (append-assoc (cat f i) (f i) (f (suc i) ++ drop (w * suc (suc i)) old))
-      ∙ sym (append-assoc (cat f i ++ f i) (f (suc i)) (drop (w * suc (suc i)) old)))
+      ∙ rw (far, n, m) (simp append-assoc)
 
   summed-two : (f : ℕ → List ℕ) (sum next : List ℕ) → sum ≡ xorOver f i → next ≡ xorBlock (xorBlock sum (f i)) (f (i + 1)) → next ≡ xorOver f (i + 2)
   summed-two f sum next e q = rw two-on (summed f (i + 1) (xorBlock sum (f i)) next (summed f i sum (xorBlock sum (f i)) e refl) q)

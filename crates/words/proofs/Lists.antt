@@ -2,7 +2,7 @@
 use mathlib.Core.Path.{_≡_, refl, sym, ap, ap₂, _∙_, subst}
 use mathlib.Core.List.{List, [], _∷_, _++_, append-assoc, append-nil}
 use Prim.Native.Nat.{ℕ, zero, suc, _+_, _-_, _*_, _≤_, _<_}
-use native.Mathlib.Nat.{add-zero, mul-suc, mul-zero, le-of-eq, mul-le-mul-left}
+use native.Mathlib.Nat.{add-zero, add-suc, mul-suc, mul-zero, le-of-eq, mul-le-mul-left}
 use native.Mathlib.Numerals.{add-one}
 use native.Mathlib.Omega.{arith}
 use native.Mathlib.Decide.{decLt}
@@ -165,9 +165,14 @@ below-append m [] t hs ht i = ht i
 below-append m (x ∷ s) t hs ht zero = hs 0
 below-append m (x ∷ s) t hs ht (suc i) = below-append m s t (λ j. hs (suc j)) ht i
 
--- a zero more at the end reads the same
-pub zero-more : (s : List ℕ) (i : ℕ) → getD (s ++ (0 ∷ [])) i 0 ≡ getD s i 0
-zero-more [] zero = refl
-zero-more [] (suc i) = refl
-zero-more (x ∷ xs) zero = refl
-zero-more (x ∷ xs) (suc i) = zero-more xs i
+-- zeros more at the end read the same
+pub zeros-more : (s : List ℕ) (n i : ℕ) → getD (s ++ zeros n) i 0 ≡ getD s i 0
+zeros-more [] n i = getD-zeros n i
+zeros-more (x ∷ xs) n zero = refl
+zeros-more (x ∷ xs) n (suc i) = zeros-more xs n i
+
+-- a table whose entries are zero from n on
+pub tab-zeros : (f : ℕ → ℕ) (n m : ℕ) → ((i : ℕ) → n ≤ i → f i ≡ 0) → tab f (n + m) ≡ tab f n ++ zeros m
+unfolding tab zeros
+tab-zeros f n zero h = rw (add-zero n, append-nil)
+tab-zeros f n (suc m) h = rw (add-suc n m, tab-zeros f n m h, h (n + m) (omega arith), append-assoc)
