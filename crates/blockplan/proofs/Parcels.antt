@@ -11,7 +11,8 @@ use Rattle.words.specs.Sequence.{zeros}
 use Rattle.words.specs.Block.{Bytes}
 use Rattle.words.proofs.Lists.{fronted}
 use Rattle.words.proofs.Blocks.{bytes-append, bytes-take}
-use Rattle.blockplan.specs.Parcel.{Mode, Lawful, parcelOf, cipherPart, tagPart, messageOf, genuine, opened}
+use Rattle.blockplan.specs.Parcel.{Mode, parcelOf, cipherPart, tagPart, messageOf, genuine, opened}
+use Rattle.blockplan.specs.Lawful.{Lawful}
 use Rattle.blockplan.specs.Compare.{verified}
 use Rattle.blockplan.proofs.Compared.{same-true, same-refl}
 

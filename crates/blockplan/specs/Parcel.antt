@@ -1,13 +1,10 @@
 -- Parcels of a mode, and opening them (document 01, "Words, bytes, blocks" and "Block plan"). Assumes nothing.
-use mathlib.Core.Path.{_≡_}
 use mathlib.Core.Bool.{Bool, true, false, cond, _&&_}
 use mathlib.Core.List.{List, [], _∷_, _++_}
 use Prim.Native.Nat.{ℕ, _-_}
 use lib.Dec.{eqb}
 use lib.ListN.{length, take, drop}
 use Rattle.words.specs.Sequence.{zeros}
-use Rattle.words.specs.Block.{Bytes}
-use Rattle.words.specs.Undo.{Undo}
 
 -- a mode, over a round count and a start block: the tag of a header and a message, the ciphertext of a message under its tag, and back
 pub record Mode : Type 0 where
@@ -46,11 +43,3 @@ genuine m header parcel = same (m .tag header (messageOf m parcel)) (tagPart par
 unfoldable pub opened : Mode → List ℕ → List ℕ → List ℕ → Bool × List ℕ
 opened m header parcel out =
     (genuine m header parcel, cond (genuine m header parcel) (messageOf m parcel) (zeros (length parcel - 32)) ++ drop (length parcel - 32) out)
-
--- what holds of a mode: the tag has 32 bytes, the ciphertext is as long as the message, and under each tag the two undo each other
-pub record Lawful (m : Mode) : Type 0 where
-  pub tag-long : (header message : List ℕ) → length (m .tag header message) ≡ 32
-  pub tag-bytes : (header message : List ℕ) → Bytes (m .tag header message)
-  pub cipher-long : (tag message : List ℕ) → length (m .cipher tag message) ≡ length message
-  pub plain-long : (tag cipher : List ℕ) → length (m .plain tag cipher) ≡ length cipher
-  pub undo : (tag : List ℕ) → Undo Bytes (m .cipher tag) (m .plain tag)

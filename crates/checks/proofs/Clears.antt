@@ -1,5 +1,5 @@
 -- Laws of the checks of seal and open: the checks behind, what holds where all are clear, and that their places are 0. Assumes nothing.
-use mathlib.Core.Path.{_≡_, refl, sym, ap, _∙_}
+use mathlib.Core.Path.{_≡_, sym, _∙_}
 use mathlib.Core.Bool.{true, not}
 use Prim.Native.Nat.{ℕ, _+_, _-_, _≤_, _<_}
 use native.Mathlib.Omega.{arith}
@@ -7,8 +7,7 @@ use lib.Dec.{eqb, ltb}
 use borrow.Author.Tests.{not-false, eqb-true, ltb-false, le-ltb}
 use Rattle.answers.specs.Answers.{lineAt, line, room}
 use Rattle.answers.specs.declared.Check.{Check}
-use Rattle.answers.specs.declared.Check.the-variants.{Clear, Fails}
-use Rattle.answers.specs.declared.Ground.{Ground}
+use Rattle.answers.specs.declared.Check.the-variants.{Clear}
 use Rattle.answers.specs.declared.Ground.the-variants.{Mode, Rounds, KeyLength, NonceLength, HeaderLength, InputLength, OutputLength, TagMissing}
 use Rattle.answers.proofs.Values.{placeOf, lineAt-lt, after, line-after, line-clear, after-clear, passed-on, room-clear}
 use Rattle.checks.specs.Checks.{isMode, isRounds, settings, sealInputs, openInputs, sealChecks, openChecks}

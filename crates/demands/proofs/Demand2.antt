@@ -1,7 +1,7 @@
 -- Demand 2 holds. Assumes nothing.
 use mathlib.Core.Path.{_≡_, refl, sym, ap, _∙_, subst}
 use mathlib.Core.Bool.{Bool, true, false, false≢true}
-use mathlib.Core.Logic.{_⊎_, inl, inr}
+use mathlib.Core.Logic.{inl, inr}
 use mathlib.Core.List.{List, [], _++_, append-nil}
 use Prim.Native.Nat.{ℕ, _+_, _-_, _≤_}
 use native.Mathlib.Omega.{arith}
@@ -14,10 +14,10 @@ use Rattle.answers.specs.Answers.{lineAt, line, room, checked}
 use Rattle.answers.proofs.Values.{passed-on}
 use Rattle.answers.specs.declared.Check.the-variants.{Clear}
 use Rattle.answers.specs.declared.Answer.{Answer}
-use Rattle.answers.specs.declared.Answer.the-variants.{Done}
 use Rattle.mem.specs.Mem.{startOf}
 use Rattle.mem.proofs.Laws.{start-block}
-use Rattle.blockplan.specs.Parcel.{Mode, Lawful, parcelOf, messageOf, genuine, opened}
+use Rattle.blockplan.specs.Parcel.{Mode, parcelOf, messageOf, genuine, opened}
+use Rattle.blockplan.specs.Lawful.{Lawful}
 use Rattle.blockplan.proofs.Parcels.{parcel-long, parcel-bytes, parcel-message, parcel-genuine, message-long, message-bytes, message-parcel}
 use Rattle.checks.specs.Checks.{isRounds, sealChecks, openChecks}
 use Rattle.checks.proofs.Clears.{settings-rounds, seal-after, open-after, seal-inputs, open-inputs, parcel-inputs, message-inputs}

@@ -10,7 +10,7 @@ use lib.ListN.{length, getD, drop}
 use borrow.Author.Tests.{eq-eqb, le-leb, le-ltb}
 use Rattle.words.specs.Sequence.{zeros, tab, times}
 use Rattle.words.specs.Block.{Block, blockOf, bytesOf, xorBytes}
-use Rattle.words.proofs.Blocks.{length-bytesOf, bytes-bytesOf, block-blockOf, blockOf-bytesOf, bytes-are, bytesOf-xor, blockOf-xor, length-xorBytes, bytes-xorBytes}
+use Rattle.words.proofs.Blocks.{length-bytesOf, bytes-bytesOf, block-blockOf, blockOf-bytes, bytes-are, bytesOf-xor, blockOf-xor, length-xorBytes, bytes-xorBytes}
 use Rattle.answers.specs.Answers.{lineAt, line, room, checked}
 use Rattle.answers.specs.declared.Check.the-variants.{Clear}
 use Rattle.answers.specs.declared.Answer.{Answer}
@@ -85,10 +85,6 @@ start-of b = record { long = length-bytesOf b; bytes = bytes-bytesOf b }
 start-bytes : (start : List ℕ) → Start start → bytesOf (blockOf start) ≡ start
 start-bytes start a = bytes-are start (a .bytes) (a .long)
 
--- a block comes back from its bytes
-again-of : (b : List ℕ) → Block b → blockOf (bytesOf b) ≡ b
-again-of b h = ap blockOf (sym (append-nil (bytesOf b))) ∙ blockOf-bytesOf b [] h
-
 walk-is-jump : (start steps out : List ℕ) → Start start → Steps steps
     → walkCall start steps out ≡ jumpCall start (net 1 steps) (net 2 steps) (net 3 steps) out
 walk-is-jump start steps out a l =
@@ -150,7 +146,7 @@ module _ (kind : ℕ) (s : List ℕ) (p : 1 ≤ kind) (q : kind ≤ 3) (a : Star
   back =
       ap (λ (x : List ℕ). mask x (kind ∷ [])) before-is
       ∙ mask-step kind (bytesOf before) p (omega arith) (start-of before)
-      ∙ ap (λ (b : List ℕ). bytesOf (step kind b)) (again-of before before-block)
+      ∙ ap (λ (b : List ℕ). bytesOf (step kind b)) (blockOf-bytes before before-block)
       ∙ ap bytesOf (kind-undo kind p q .forth-back (blockOf s) (block s a))
       ∙ start-bytes s a
 
@@ -159,7 +155,7 @@ module _ (kind : ℕ) (s : List ℕ) (p : 1 ≤ kind) (q : kind ≤ 3) (a : Star
   only t b e =
       sym (start-bytes t b)
       ∙ ap bytesOf (sym (kind-undo kind p q .back-forth (blockOf t) (block t b)) ∙ ap (step (kind + 3))
-      (sym (again-of (step kind (blockOf t)) (kind-undo kind p q .forth-keeps (blockOf t) (block t b)))
+      (sym (blockOf-bytes (step kind (blockOf t)) (kind-undo kind p q .forth-keeps (blockOf t) (block t b)))
       ∙ ap blockOf (sym (mask-step kind t p (omega arith) b) ∙ e)))
       ∙ sym before-is
 

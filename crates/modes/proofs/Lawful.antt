@@ -4,7 +4,7 @@ use Prim.Native.Nat.{ℕ}
 use lib.Dec.{eqb}
 use Rattle.words.specs.Block.{Block}
 use Rattle.words.proofs.Truth.{pick}
-use Rattle.blockplan.specs.Parcel.{Lawful}
+use Rattle.blockplan.specs.Lawful.{Lawful}
 use Rattle.opp.specs.Opp.{oppMode}
 use Rattle.opp.proofs.Opened.{opp-lawful}
 use Rattle.mro.specs.Mro.{mroMode}

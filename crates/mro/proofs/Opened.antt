@@ -7,7 +7,7 @@ use Rattle.words.proofs.Lists.{cat-ext}
 use Rattle.words.proofs.Blocks.{length-bytesOf, bytes-bytesOf, bytes-are, bytesOf-xor, block-blockOf}
 use Rattle.mem.proofs.Laws.{xor-undo}
 use Rattle.blockplan.specs.Plan.{whole, left, blockAt, ciphered}
-use Rattle.blockplan.specs.Parcel.{Lawful}
+use Rattle.blockplan.specs.Lawful.{Lawful}
 use Rattle.blockplan.proofs.Tags.{length-tagBytes, bytes-tagBytes}
 use Rattle.blockplan.proofs.Ciphered.{length-ciphered, bytes-ciphered, ciphered-undo}
 use Rattle.mro.proofs.Streams.{xored}

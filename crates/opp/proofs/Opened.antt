@@ -3,7 +3,7 @@ use mathlib.Core.List.{List}
 use Prim.Native.Nat.{ℕ}
 use Rattle.words.specs.Block.{Block}
 use Rattle.mem.proofs.Laws.{E-undo}
-use Rattle.blockplan.specs.Parcel.{Lawful}
+use Rattle.blockplan.specs.Lawful.{Lawful}
 use Rattle.blockplan.proofs.Tags.{length-tagBytes, bytes-tagBytes}
 use Rattle.blockplan.proofs.Ciphered.{length-ciphered, ciphered-undo}
 use Rattle.opp.specs.Opp.{oppTag, sealAt, openAt, oppStream, oppCipher, oppPlain, oppMode}

@@ -1,6 +1,5 @@
 -- The inputs, and then the room for the output. Assumes nothing.
-use mathlib.Core.Path.{_≡_, sym, _∙_}
-use native.Mathlib.Omega.{arith}
+use mathlib.Core.Path.{sym, _∙_}
 use Rattle.answers.proofs.Values.{stopped, passed-on}
 use Rattle.checks.specs.Checks.{openChecks}
 use Rattle.checks.proofs.Clears.{open-after, open-inputs}

@@ -1,5 +1,5 @@
 -- The settings, and then the parcel's length. Assumes nothing.
-use mathlib.Core.Path.{_≡_, sym, _∙_}
+use mathlib.Core.Path.{sym, _∙_}
 use lib.Dec.{ltb}
 use borrow.Author.Tests.{lt-ltb, le-ltb}
 use Rattle.answers.specs.Answers.{lineAt, line}
