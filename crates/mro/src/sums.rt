@@ -18,6 +18,9 @@ fn absorb_all(s: &[u8], first: [u64; 16], rounds: u32) -> [u64; 16]
 {
     let front = absorb(s, first, rounds);
     let sum = front.sum;
+    if s.len() % 128 == 0 {
+        return sum;
+    }
     let mask = front.mask;
     absorb_left(sum, s, 0, mask, rounds)
 }

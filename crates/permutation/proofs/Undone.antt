@@ -1,5 +1,4 @@
 -- The back permutation undoes P, and P the back permutation, for every block and every count of rounds. Assumes nothing.
-use mathlib.Core.Path.{_≡_}
 use mathlib.Core.List.{List, [], _∷_}
 use Prim.Native.Nat.{ℕ}
 use Rattle.words.specs.Block.{Block}
@@ -33,19 +32,9 @@ pub perm-undo : (n : ℕ) → Undo Block (perm n) (backPerm n)
 unfolding perm backPerm
 perm-undo n = undo-times round-undo n
 
--- ---- the same, one fact each
-
+-- P gives a block
 pub perm-block : (n : ℕ) (s : List ℕ) → Block s → Block (perm n s)
 perm-block n = perm-undo n .forth-keeps
-
-pub backPerm-block : (n : ℕ) (s : List ℕ) → Block s → Block (backPerm n s)
-backPerm-block n = perm-undo n .back-keeps
-
-pub backPerm-perm : (n : ℕ) (s : List ℕ) → Block s → backPerm n (perm n s) ≡ s
-backPerm-perm n = perm-undo n .back-forth
-
-pub perm-backPerm : (n : ℕ) (s : List ℕ) → Block s → perm n (backPerm n s) ≡ s
-perm-backPerm n = perm-undo n .forth-back
 
 pub back-undoes : BackUndoes
 back-undoes = record { undone = perm-undo }

@@ -49,10 +49,6 @@ set-below (x ∷ xs) (suc i) v hs hv (suc k) = set-below xs i v (λ j. hs (suc j
 pub set-block : (s : List ℕ) (i v : ℕ) → Block s → v < 2 ^ 64 → Block (set s i v)
 set-block s i v b hv = record { long = length-set s i v ∙ b .long; words = set-below s i v (b .words) hv }
 
-pub zero-block : Block zeroBlock
-unfolding zeroBlock
-zero-block = block-tab (λ i. 0) (λ i h. lit< tt)
-
 -- ---- exclusive or of blocks
 
 pub xor-block : (a b : List ℕ) → Block a → Block b → Block (xorBlock a b)

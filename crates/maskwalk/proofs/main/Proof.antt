@@ -1,4 +1,4 @@
--- The text stands within its array. Assumes nothing.
+-- The text stands within its array. Assumes the contracts of read and write.
 use mathlib.Core.Path.{sym}
 use lib.Seq.{length-take-le}
 use Rattle.maskwalk_text.proofs.Writing.{written-within}
