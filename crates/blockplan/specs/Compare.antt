@@ -7,7 +7,7 @@ use lib.ListN.{length, getD, drop}
 use Rattle.words.specs.Sequence.{zeros}
 use Rattle.blockplan.specs.Parcel.{tagPart, same}
 
--- the bits in which a and b differ in any of their first n bytes
+-- the bits in which a and b differ in any of their first n words
 unfoldable pub differing : List ℕ → List ℕ → ℕ → ℕ
 differing a b zero = 0
 differing a b (suc n) = bitOr (differing a b n) (bitXor (getD a n 0) (getD b n 0))

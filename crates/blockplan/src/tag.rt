@@ -1,5 +1,5 @@
 // The tag: written, compared, and what follows from the comparison.
-use words::block::store;
+use words::word::load_word;
 use words::word::store_word;
 ghost use mathlib.Core.Path.{_≡_};
 ghost use mathlib.Core.Bool.{cond};
@@ -8,7 +8,7 @@ ghost use Prim.Native.Nat.{_+_, _≤_};
 ghost use lib.Dec.{eqb};
 ghost use lib.ListN.{length, drop};
 ghost use Rattle.words.specs.Sequence.{zeros};
-ghost use Rattle.words.specs.Block.{bytesOf};
+ghost use Rattle.words.specs.Block.{blockOf};
 ghost use Rattle.blockplan.specs.Compare.{differing, verified};
 ghost use Rattle.blockplan.specs.Plan.{tagBytes};
 
@@ -25,18 +25,17 @@ pub fn store_tag(b: [u64; 16], out: &mut [u8])
     }
 }
 
-// The bits in which the tag is wrong, so 0 where it is right: all 32 bytes are looked at, whether or
+// The bits in which the tag is wrong, so 0 where it is right: all four words are looked at, whether or
 // not an early one differs.
-fn difference(b: [u64; 16], tag: &[u8]) -> u8
+fn difference(b: [u64; 16], tag: &[u8]) -> u64
     requires { ⌜ length (now tag) ≡ 32 ⌝ }
-    ensures { λ r. ⌜ r ≡ differing (bytesOf b) (now (tag .entry)) 32 ⌝ }
+    ensures { λ r. ⌜ r ≡ differing b (blockOf (now (tag .entry))) 4 ⌝ }
 {
-    let mut bytes = [0u8; 128];
-    store(b, &mut bytes);
-    let mut differ: u8 = 0;
+    let mut differ: u64 = 0;
     let mut i: usize = 0;
-    while i < 32 {
-        differ = differ | (bytes[i] ^ tag[i]);
+    while i < 4 {
+        let at = 8 * i;
+        differ = differ | (b[i] ^ load_word(&tag[at..]));
         i += 1;
     }
     differ
@@ -44,18 +43,21 @@ fn difference(b: [u64; 16], tag: &[u8]) -> u8
 
 // All bits where nothing differs, none where something does: by shifts, for a test would be
 // compiled to a branch.
-fn mask_of(differ: u8) -> u8
+fn mask_of(differ: u64) -> u8
     ensures { λ r. ⌜ r ≡ cond (eqb differ 0) 255 0 ⌝ }
 {
-    let a = differ | (differ >> 4);
-    let b = a | (a >> 2);
-    let c = b | (b >> 1);
-    255 * (1 - c % 2)
+    let a = differ | (differ >> 32);
+    let b = a | (a >> 16);
+    let c = b | (b >> 8);
+    let d = c | (c >> 4);
+    let e = d | (d >> 2);
+    let f = e | (e >> 1);
+    255 * (1 - (f % 2) as u8)
 }
 
 // The first n bytes stay where nothing differs and become zero where something does, by the same
 // steps in both cases.
-fn keep(out: &mut [u8], n: usize, differ: u8)
+fn keep(out: &mut [u8], n: usize, differ: u64)
     requires { ⌜ n ≤ length (now out) ⌝ }
     ensures { λ _. ⌜ now (out .exit) ≡ cond (eqb differ 0) (now (out .entry)) (zeros n ++ drop n (now (out .entry))) ⌝ }
 {

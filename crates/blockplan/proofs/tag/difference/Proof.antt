@@ -1,37 +1,46 @@
--- The loop's invariant: the bits in which the first i bytes differ. Assumes nothing.
-use mathlib.Core.Path.{_≡_, refl, _∙_}
-use mathlib.Core.List.{append-nil}
+-- The loop's invariant: the bits in which the first i words differ. Assumes nothing.
+use mathlib.Core.Path.{_≡_, refl, sym, _∙_}
 use Prim.Native.Nat.{_-_, _≤_}
 use native.Mathlib.Numerals.{add-one}
 use native.Mathlib.Omega.{arith}
-use lib.ListN.{length}
-use Rattle.words.specs.Block.{bytesOf}
+use lib.ListN.{length-drop}
+use Rattle.words.specs.Block.{wordAt, blockOf}
+use Rattle.words.proofs.Lists.{tailPart, getD-tab}
 use Rattle.blockplan.specs.Compare.{differing}
 use borrow.Author.Needs.{needs}
 use Rattle.blockplan.proofs.tag.difference.Statement.{statement}
 use Rattle.blockplan.proofs.tag.difference.Tie as tie
 
 abbrev Inv-loop : tie.InvT-loop
-Inv-loop tag bytes differ₀ i₀ differ i = (i ≤ 32) × ((length bytes ≡ 128) × (differ ≡ differing bytes tag i))
+Inv-loop tag b differ₀ i₀ differ i = (i ≤ 4) × (differ ≡ differing b (blockOf tag) i)
 
 abbrev μ-loop : tie.MeasureT-loop
-μ-loop tag bytes differ₀ i₀ differ i = 32 - i
-
-slice-aggregate-store : tie.Need-slice-aggregate-store Inv-loop μ-loop
-slice-aggregate-store c = search needs
-
-store-requires : tie.Need-store-requires Inv-loop μ-loop
-store-requires c κs = search needs
+μ-loop tag b differ₀ i₀ differ i = 4 - i
 
 loop-holds : tie.Need-loop-holds Inv-loop μ-loop
 unfolding differing
-loop-holds c = (search needs, (c .before .store .kept .1 .0, refl))
+loop-holds c = (search needs, refl)
+
+mul-at : tie.Need-mul-at Inv-loop μ-loop
+mul-at c = search needs
+
+mul-differ : tie.Need-mul-differ Inv-loop μ-loop
+mul-differ c = search needs
 
 array-read-differ : tie.Need-array-read-differ Inv-loop μ-loop
 array-read-differ c = search needs
 
-shared-slice-read-differ : tie.Need-shared-slice-read-differ Inv-loop μ-loop
-shared-slice-read-differ c = search needs
+sub-load-word : tie.Need-sub-load-word Inv-loop μ-loop
+sub-load-word c = search needs
+
+part-load-word-start : tie.Need-part-load-word-start Inv-loop μ-loop
+part-load-word-start c = search needs
+
+part-load-word-end : tie.Need-part-load-word-end Inv-loop μ-loop
+part-load-word-end c = search needs
+
+load-word-requires : tie.Need-load-word-requires Inv-loop μ-loop
+load-word-requires c κs = rw tailPart (simp length-drop (omega arith))
 
 add-i : tie.Need-add-i Inv-loop μ-loop
 add-i c = search needs
@@ -40,19 +49,14 @@ loop-less : tie.Need-loop-less Inv-loop μ-loop
 loop-less c = search needs
 
 loop-again : tie.Need-loop-again Inv-loop μ-loop
-unfolding differing
+unfolding differing wordAt blockOf
 loop-again c =
-    let at = c .before .before .loop in
-    (omega arith, (at .inv .1 .0, rw (add-one, at .inv .1 .1)))
+    let at = c .before .before .before .loop in
+    let word = rw tailPart at (c .load-word .ensures) in
+    (omega arith, rw (add-one, at .inv .1, word, getD-tab (wordAt _) 16 (at .i) (omega arith)))
 
 returns : tie.Need-returns Inv-loop μ-loop
-returns c =
-    let at = c .before .loop in
-    let start = c .before .before .before .before .before .before in
-    let e : at .i ≡ 32 = omega arith in
-    let bytes : c .before .before .before .store .last .1 .0 ≡ bytesOf (start .args .b) = c .before .before .before .store .ensures ∙ append-nil (bytesOf (start .args .b)) in
-    let done = rw (e, bytes) at (at .inv .1 .1) in
-    done
+returns c = let e : c .before .loop .i ≡ 4 = omega arith in rw e at (c .before .loop .inv .1)
 
 pub difference-spec : {M : Type 1} → statement M
 difference-spec =
@@ -60,11 +64,14 @@ difference-spec =
     (tie.spec
     Inv-loop
     μ-loop
-    slice-aggregate-store
-    store-requires
     loop-holds
+    mul-at
+    mul-differ
     array-read-differ
-    shared-slice-read-differ
+    sub-load-word
+    part-load-word-start
+    part-load-word-end
+    load-word-requires
     add-i
     loop-less
     loop-again

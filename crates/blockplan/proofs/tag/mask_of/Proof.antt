@@ -1,8 +1,11 @@
--- The byte's bits or'ed into the lowest one, as a law has it for each byte. Assumes nothing.
+-- The word's bits or'ed into the lowest one, as a law has it. Assumes nothing.
 use Rattle.blockplan.proofs.Kept.{orUp, maskOf, mask-is}
 use borrow.Author.Needs.{needs}
 use Rattle.blockplan.proofs.tag.mask_of.Statement.{statement}
 use Rattle.blockplan.proofs.tag.mask_of.Tie as tie
+
+cast-result : tie.Need-cast-result
+cast-result c = search needs
 
 sub-result : tie.Need-sub-result
 sub-result c = search needs
@@ -15,4 +18,4 @@ unfolding maskOf orUp
 returns c = mask-is (c .args .differ) (search needs)
 
 pub mask-of-spec : {M : Type 1} → statement M
-mask-of-spec = tie.close (tie.spec sub-result mul-result returns)
+mask-of-spec = tie.close (tie.spec cast-result sub-result mul-result returns)

@@ -4,7 +4,10 @@ use Prim.Native.Nat.{_-_}
 use native.Mathlib.Omega.{arith}
 use lib.ListN.{length, length-drop}
 use denote.Ref.{now}
+use Rattle.words.specs.Block.{Block, Bytes}
 use Rattle.words.proofs.Lists.{tailPart}
+use Rattle.words.proofs.Arrays.{array-block}
+use Rattle.words.proofs.Blocks.{bytes-drop}
 use Rattle.blockplan.specs.Parcel.{tagPart}
 use Rattle.blockplan.specs.Compare.{verified}
 use Rattle.blockplan.proofs.Compared.{judged}
@@ -36,11 +39,14 @@ same-length c = search needs
 returns : tie.Need-returns
 unfolding verified tagPart
 returns c =
-    let a = c .before .before .before .before .before .before .before .before .args in
+    let start = c .before .before .before .before .before .before .before .before in
+    let a = start .args in
+    let block : Block (a .expected) = array-block _ _ (start .good .0) in
     let parcel = now (a .parcel) in
     let exact : length (tagPart parcel) ≡ 32 = simp length-drop (omega arith) in
     let differ = rw (tailPart (length parcel - 32) parcel) at (c .before .before .before .before .difference .ensures) in
-    rw (← judged (a .expected) (tagPart parcel) _ exact differ, c .before .before .keep .ensures)
+    let bytes : Bytes parcel = record { bytes = λ i. c .before .before .before .before .before .before .before .shared-slice-known .given i .fits } in
+    rw (← judged (a .expected) (tagPart parcel) block (bytes-drop (length parcel - 32) parcel bytes) exact _ differ, c .before .before .keep .ensures)
 
 pub verify-spec : {M : Type 1} → statement M
 verify-spec =
