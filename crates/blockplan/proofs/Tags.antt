@@ -42,12 +42,12 @@ module _ (t : List ℕ) (e : length t ≡ 32) where
   unfolding blockOf
   block-of-tag = tab-zeros (wordAt t) 4 12 no-word
 
-  -- 32 bytes come back from the block that they stand for
-  pub tag-of-block : Bytes t → tagBytes (blockOf t) ≡ t
-  unfolding tagBytes zeros
-  tag-of-block h =
-      let all = t ++ zeros 96 in
-      let long : length all ≡ 128 = length-append t (zeros 96) ∙ rw (e, length-tab (λ i. 0) 96) in
-      let bytes : Bytes all = bytes-append t (zeros 96) h (record { bytes = λ i. rw (getD-zeros 96 i) (lit< tt) }) in
-      ap (λ (b : List ℕ). take 32 (bytesOf b)) (sym (blockOf-ext all t (zeros-more t 96)))
-      ∙ ap (take 32) (bytes-are all bytes long) ∙ take-at t (zeros 96) 32 e
+-- 32 bytes come back from the block that they stand for
+pub tag-of-block : (t : List ℕ) → Bytes t → length t ≡ 32 → tagBytes (blockOf t) ≡ t
+unfolding tagBytes zeros
+tag-of-block t h e =
+    let all = t ++ zeros 96 in
+    let long : length all ≡ 128 = length-append t (zeros 96) ∙ rw (e, length-tab (λ i. 0) 96) in
+    let bytes : Bytes all = bytes-append t (zeros 96) h (record { bytes = λ i. rw (getD-zeros 96 i) (lit< tt) }) in
+    ap (λ (b : List ℕ). take 32 (bytesOf b)) (sym (blockOf-ext all t (zeros-more t 96)))
+    ∙ ap (take 32) (bytes-are all bytes long) ∙ take-at t (zeros 96) 32 e

@@ -72,7 +72,7 @@ returns c =
     let out = stream .last .1 .1 .1 .1 .0 in
     let all : Bytes parcel = record { bytes = λ i. c .before .before .before .before .before .before .before .before .before .before .before .before .before .before .shared-slice-known2 .given i .fits } in
     let exact : length (tagPart parcel) ≡ 32 = simp length-drop (omega arith) in
-    let tag : tagBytes (load .result) ≡ tagPart parcel = ap tagBytes (rw (tailPart n parcel) at (load .ensures)) ∙ tag-of-block (tagPart parcel) exact (bytes-drop n parcel all) in
+    let tag : tagBytes (load .result) ≡ tagPart parcel = ap tagBytes (rw (tailPart n parcel) at (load .ensures)) ∙ tag-of-block (tagPart parcel) (bytes-drop n parcel all) exact in
     let short : length (take n parcel) ≡ n = length-take-le n parcel (omega arith) in
     let streamed : out ≡ message ++ drop n old = rw (tag, short) at (stream .ensures) in
     let front : take n out ≡ message = ap (take n) streamed ∙ take-at message (drop n old) n (message-long mode law header parcel (omega arith)) in
