@@ -3,8 +3,9 @@
 .PHONY: all dist tool demo test bench planted install uninstall tools clean help
 
 PREFIX ?= /usr/local
+LIBDIR ?= $(PREFIX)/lib
 DESTDIR ?=
-export PREFIX DESTDIR
+export PREFIX LIBDIR DESTDIR
 DIST := dist
 TOOL := rust/target/release/calmbaize
 
@@ -38,7 +39,6 @@ test: ## the gate: layout, proofs, must-fail edits, and the checks of the machin
 	@.ci/run
 
 planted: tools ## the outside checks, seen to fail on faulty libraries, headers and programs
-	@tools/need.sh pkg:libsodium-dev libsodium-dev
 	@tools/planted.sh
 
 bench: dist ## measures, and writes docs/BENCHMARKS.md
@@ -46,7 +46,7 @@ bench: dist ## measures, and writes docs/BENCHMARKS.md
 	@tools/need.sh pkg:libsodium-dev libsodium-dev
 	@cd rust && cargo run --offline --release --quiet --package bench -- --docs ../docs $(if $(wildcard target/gate.times),--gate ../target/gate.times)
 
-install: ## copies what make built below PREFIX (/usr/local), with DESTDIR put before it
+install: ## copies what make built below PREFIX (/usr/local) and LIBDIR (PREFIX/lib), DESTDIR put before both
 	@tools/install.sh install "$(DIST)" "$(TOOL)"
 
 uninstall: ## takes away what make install put there

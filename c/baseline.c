@@ -383,6 +383,19 @@ static void mro_stream(uint32_t rounds, const uint64_t start[WORDS], const uint6
     }
 }
 
+/* Decrypts under the tag that came behind the ciphertext, and makes the tag of what that gives. */
+static void mro_open(uint32_t rounds, const uint64_t start[WORDS], const uint8_t *header,
+                     size_t header_len, const uint8_t *in, uint8_t *out, size_t len,
+                     uint64_t tag[WORDS])
+{
+    uint64_t given[4];
+
+    for (int i = 0; i < 4; i++)
+        given[i] = load64(in + len + 8 * i);
+    mro_stream(rounds, start, given, in, out, len);
+    mro_tag(rounds, start, header, header_len, out, len, tag);
+}
+
 /* Sealing and opening. */
 
 static int allowed(uint32_t rounds)
@@ -469,11 +482,7 @@ uint64_t baseline_open(uint32_t mode, uint32_t rounds, const uint8_t *key, size_
         absorb(OPP, rounds, start, 0, header, header_len, tag);
         opp_open(rounds, start, input, output, len, tag);
     } else {
-        uint64_t given[4];
-        for (int i = 0; i < 4; i++)
-            given[i] = load64(input + len + 8 * i);
-        mro_stream(rounds, start, given, input, output, len);
-        mro_tag(rounds, start, header, header_len, output, len, tag);
+        mro_open(rounds, start, header, header_len, input, output, len, tag);
     }
     if (tag_differs(input + len, tag)) {
         if (len > 0)

@@ -17,6 +17,13 @@ if [ ! -f "$archive" ]; then
     exit 2
 fi
 
+if ! nm "$archive" > /dev/null; then
+    echo "check-archive: nm can't read $archive" >&2
+    exit 2
+fi
+calls=$("$root/tools/calls.sh" "$root/include/calmbaize.h") || exit 2
+calls=$(echo "$calls" | sed 's/(.*//')
+
 # result WHAT NAMES: passes where no name is given.
 result() {
     if [ -z "$2" ]; then
@@ -36,7 +43,6 @@ names() {
     cut -d ' ' -f 2
 }
 
-calls=$("$root/tools/calls.sh" "$root/include/calmbaize.h" | sed 's/(.*//')
 for call in $calls; do
     result "missing call" "$(symbols | grep -qx "T $call" || echo "$call")"
 done

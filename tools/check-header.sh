@@ -10,7 +10,7 @@ set -u
 root=$(cd "$(dirname "$0")/.." && pwd)
 folder=${1:-$root/include}
 version=$("$root/tools/version.sh")
-work=$(mktemp -d)
+work=$(mktemp -d) || exit 2
 trap 'rm -rf "$work"' EXIT
 passed=0
 failed=0
@@ -20,12 +20,21 @@ if ! "$root/tools/calls.sh" "$folder/calmbaize.h" > "$work/calls"; then
     exit 2
 fi
 
+for compiler in "${CC:-cc}" "${CXX:-c++}"; do
+    if ! command -v "$compiler" > /dev/null; then
+        echo "check-header: $compiler is missing: install gcc and g++, or set CC and CXX" >&2
+        exit 2
+    fi
+done
+
 cat > "$work/answer.c" <<'END'
 #include "calmbaize.h"
 #include "calmbaize.h"
 #include <string.h>
 
-#if CALMBAIZE_VERSION_NUMBER != MAJOR * 1000000 + MINOR * 1000 + PATCH || CALMBAIZE_FORMAT < 1
+#if CALMBAIZE_VERSION_MAJOR != MAJOR || CALMBAIZE_VERSION_MINOR != MINOR || \
+    CALMBAIZE_VERSION_PATCH != PATCH ||                                    \
+    CALMBAIZE_VERSION_NUMBER != MAJOR * 1000000 + MINOR * 1000 + PATCH || CALMBAIZE_FORMAT < 1
 #error "the version is not that of rust/Cargo.toml, or there is no format"
 #endif
 

@@ -1,6 +1,7 @@
 #!/bin/sh
 # What make install puts somewhere is enough: pkg-config finds it, a C program is built over it and
-# runs, and make uninstall leaves nothing behind.
+# runs, and make uninstall leaves nothing behind. So it is with LIBDIR as it comes, in another folder
+# below PREFIX, and elsewhere.
 #
 # usage: check-install.sh [FOLDER]
 #
@@ -9,22 +10,26 @@ set -u
 
 root=$(cd "$(dirname "$0")/.." && pwd)
 folder=${1:-$root/dist}
-work=$(mktemp -d)
+work=$(mktemp -d) || exit 2
 trap 'rm -rf "$work"' EXIT
 prefix=/opt/calmbaize
+# Else make would take it from the environment.
+unset LIBDIR
 passed=0
 failed=0
 
-if ! command -v pkg-config > /dev/null; then
-    echo "check-install: pkg-config is missing: install Debian's package pkg-config" >&2
-    exit 2
-fi
+for program in pkg-config make "${CC:-cc}"; do
+    if ! command -v "$program" > /dev/null; then
+        echo "check-install: $program is missing: install Debian's package pkg-config, make or gcc" >&2
+        exit 2
+    fi
+done
 if [ ! -f "$folder/libcalmbaize.a" ]; then
     echo "check-install: $folder/libcalmbaize.a is missing: run make" >&2
     exit 2
 fi
 
-# count WHAT COMMAND...: WHAT is said where the command fails.
+# count WHAT COMMAND...: WHAT is said where the command fails, with the folder of libraries.
 count() {
     what=$1
     shift
@@ -32,18 +37,18 @@ count() {
         passed=$((passed + 1))
     else
         failed=$((failed + 1))
-        echo "  failed: install: $what"
+        echo "  failed: install: $what, libraries in $libdir"
     fi
 }
 
 make_to() {
-    make --no-print-directory -C "$root" "$1" DIST="$folder" TOOL="$work/tool" PREFIX="$prefix" \
+    make --no-print-directory -C "$root" "$@" DIST="$folder" TOOL="$work/tool" PREFIX="$prefix" \
         DESTDIR="$work/root" > "$work/log" 2>&1 || { cat "$work/log"; false; }
 }
 
 # Flags as they are where the files stand below the sysroot.
 flags() {
-    PKG_CONFIG_SYSROOT_DIR=$work/root PKG_CONFIG_PATH=$work/root$prefix/lib/pkgconfig pkg-config "$@" calmbaize
+    PKG_CONFIG_SYSROOT_DIR=$work/root PKG_CONFIG_PATH=$work/root$libdir/pkgconfig pkg-config "$@" calmbaize
 }
 
 program_runs() {
@@ -65,13 +70,23 @@ nothing_left() {
     [ -z "$(find "$work/root" -type f)" ]
 }
 
+# check LIBDIR [SETTING]: SETTING is what make is told of it.
+check() {
+    libdir=$1
+    shift
+    count "make install" make_to install "$@"
+    count "a C program over it" program_runs
+    count "the version that pkg-config says" version_is_right
+    count "the tool" tool_runs
+    count "make uninstall" make_to uninstall "$@"
+    count "files left behind" nothing_left
+}
+
 printf '#!/bin/sh\necho the tool\n' > "$work/tool"
-count "make install" make_to install
-count "a C program over it" program_runs
-count "the version that pkg-config says" version_is_right
-count "the tool" tool_runs
-count "make uninstall" make_to uninstall
-count "files left behind" nothing_left
+check "$prefix/lib"
+for other in "$prefix/lib/multiarch" /opt/lib64; do
+    check "$other" "LIBDIR=$other"
+done
 
 echo "$passed passed, $failed failed"
 [ "$failed" -eq 0 ]

@@ -9,7 +9,8 @@ set -u
 
 root=$(cd "$(dirname "$0")/.." && pwd)
 folder=${1:-$root}
-log=$(mktemp)
+build=$root/rust/target/layout
+log=$(mktemp) || exit 2
 trap 'rm -f "$log"' EXIT
 passed=0
 failed=0
@@ -30,14 +31,13 @@ run() {
     fi
 }
 
-# The wrapper's build asks for an archive, though nothing is linked.
 clippy() {
-    build=$root/rust/target/layout
-    "$root/tools/stand-in.sh" "$build/stand-in" &&
-        CALMBAIZE_LIB_DIR=$build/stand-in CARGO_TARGET_DIR=$build cargo clippy --offline --quiet \
-            --workspace --all-targets -- -D warnings
+    CALMBAIZE_LIB_DIR=$build/stand-in CARGO_TARGET_DIR=$build cargo clippy --offline --quiet \
+        --workspace --all-targets -- -D warnings
 }
 
+# The wrapper's build asks for an archive, though nothing is linked.
+"$root/tools/stand-in.sh" "$build/stand-in" || exit 2
 cd "$folder" || exit 2
 run "rt fmt --check" "rt version" rt fmt --check
 run "shellcheck" "shellcheck --version" shellcheck --severity=warning .ci/run tools/*.sh
@@ -46,4 +46,5 @@ run "cargo fmt --check" "cargo fmt --version" cargo fmt --all --check
 run "cargo clippy" "cargo clippy --version" clippy
 
 echo "$passed passed, $failed failed"
-[ "$failed" -eq 0 ] && [ "$passed" -gt 0 ]
+[ $((passed + failed)) -gt 0 ] || exit 2
+[ "$failed" -eq 0 ]

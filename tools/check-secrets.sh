@@ -8,7 +8,7 @@ set -eu
 
 root=$(cd "$(dirname "$0")/.." && pwd)
 folder=${1:-$root/dist}
-work=$(mktemp -d)
+work=$(mktemp -d) || exit 2
 trap 'rm -rf "$work"' EXIT
 
 if ! command -v valgrind > /dev/null ||
@@ -21,8 +21,12 @@ if [ ! -f "$folder/libcalmbaize.a" ]; then
     exit 2
 fi
 ${CC:-cc} -std=c99 -O1 -g -Wall -Wextra -I "$root/include" "$root/tools/secrets.c" \
-    "$folder/libcalmbaize.a" -o "$work/secrets"
-valgrind --quiet --error-limit=no --log-file="$work/log" "$work/secrets" ${2:+"$2"} || {
-    sed -n 1,40p "$work/log" >&2
-    exit 1
-}
+    "$folder/libcalmbaize.a" -o "$work/secrets" || exit 2
+status=0
+valgrind --quiet --error-limit=no --log-file="$work/log" "$work/secrets" ${2:+"$2"} > "$work/counts" ||
+    status=$?
+cat "$work/counts"
+[ "$status" -eq 0 ] || sed -n 1,40p "$work/log" >&2
+# Where valgrind itself can't run, it ends with 1 too.
+grep -q ' failed$' "$work/counts" || exit 2
+exit "$status"

@@ -8,7 +8,7 @@ set -eu
 
 root=$(cd "$(dirname "$0")/.." && pwd)
 folder=${1:-$root/dist}
-work=$(mktemp -d)
+work=$(mktemp -d) || exit 2
 trap 'rm -rf "$work"' EXIT
 
 if [ ! -f "$folder/libcalmbaize.a" ]; then
@@ -16,5 +16,5 @@ if [ ! -f "$folder/libcalmbaize.a" ]; then
     exit 2
 fi
 ${CC:-cc} -std=c99 -O1 -Wall -Wextra -I "$root/include" "$root/tools/stack.c" \
-    "$folder/libcalmbaize.a" -o "$work/stack"
+    "$folder/libcalmbaize.a" -o "$work/stack" || exit 2
 "$work/stack"

@@ -66,6 +66,7 @@ part "proofs, must-fail edits and programs" tools/prove.sh ci
 part "archive" archive
 if [ -f dist/libcalmbaize.a ]; then
     part "header" tools/check-header.sh dist
+    part "header's constants" tools/check-constants.sh
     part "archive's symbols" tools/check-archive.sh
     part "install" tools/check-install.sh
     part "Rust tests" cargo_in_rust test --workspace

@@ -1,14 +1,15 @@
 #!/bin/sh
-# Every outside check passes on a sound library and fails on one with a fault in it.
+# Every outside check passes on a sound library and fails on one with a fault in it. One that can't run
+# says so by its status.
 #
 # usage: planted.sh
 #
 # The library is the scalar C version built as an archive, with a fault planted by sed. So are faults
-# in the header, in what is installed, and in the layout of a copy of the repository.
+# in the header, in what is installed, and in a copy of the repository.
 set -u
 
 root=$(cd "$(dirname "$0")/.." && pwd)
-work=$(mktemp -d)
+work=$(mktemp -d) || exit 2
 trap 'rm -rf "$work"' EXIT
 faulty=$work/faulty
 passed=0
@@ -27,23 +28,27 @@ compare() {
         --package compare -- --calls 3000 "$@"
 }
 
-# bench FOLDER: the benchmarks, linked with the archive in FOLDER, their page written elsewhere.
+# bench FOLDER: the calls that the benchmarks time, linked with the archive in FOLDER. Nothing is
+# measured, so that a busy machine fails nothing.
 bench() {
     CALMBAIZE_LIB_DIR=$1 cargo run --release --quiet --offline --manifest-path "$root/rust/Cargo.toml" \
-        --package bench -- --docs "$work"
+        --package bench -- --batches 0
 }
 
-# expect STATUS NAME COMMAND...: 0 where the command must pass, 1 where it must fail.
+# expect STATUS NAME COMMAND...: 0 where the command must pass, 1 where it must fail, 2 where it can't run.
 expect() {
     wanted=$1
     name=$2
     shift 2
     "$@" > "$work/log" 2>&1
     status=$?
-    # 2 is a check that could not run, which shows nothing.
     if [ "$status" -eq "$wanted" ]; then
         passed=$((passed + 1))
-        echo "  $name: $([ "$wanted" -eq 0 ] && echo passes || echo seen)"
+        case $wanted in
+        0) echo "  $name: passes" ;;
+        1) echo "  $name: seen" ;;
+        *) echo "  $name: could not run" ;;
+        esac
     else
         failed=$((failed + 1))
         echo "  failed: $name: status $status"
@@ -66,11 +71,37 @@ planted_header() {
     expect 1 "$1" "$root/tools/check-header.sh" "$work/include"
 }
 
-# planted_install NAME FILE SED-SCRIPT: the check of the install must fail where FILE of dist/ is so.
+# planted_dist CHECK NAME FILE SED-SCRIPT: the check must fail where FILE of dist/ is so.
+planted_dist() {
+    sed "$4" "$work/sound/$3" > "$work/file"
+    rm -rf "$faulty"
+    cp -R "$work/sound" "$faulty"
+    mv "$work/file" "$faulty/$3"
+    expect 1 "$2" "$root/tools/check-$1.sh" "$faulty"
+}
+
 planted_install() {
-    build "$faulty"
-    sed -i "$3" "$faulty/$2"
-    expect 1 "$1" "$root/tools/check-install.sh" "$faulty"
+    planted_dist install "$@"
+}
+
+# planted_constants NAME SED-SCRIPT: the check of the header's constants must fail on it.
+planted_constants() {
+    planted_dist constants "$1" calmbaize.h "$2"
+}
+
+# copy_root: the repository without what was built, in the folder copy.
+copy_root() {
+    rm -rf "$work/copy"
+    mkdir "$work/copy"
+    (cd "$root" && tar -cf - --exclude=target .ci Makefile c crates crates.txt rust tools) |
+        tar -xf - -C "$work/copy"
+}
+
+# planted_installer NAME SED-SCRIPT: the check of the install must fail where install.sh is so.
+planted_installer() {
+    copy_root
+    sed "$2" "$root/tools/install.sh" > "$work/copy/tools/install.sh"
+    expect 1 "$1" "$work/copy/tools/check-install.sh" "$work/sound"
 }
 
 # planted_layout NAME PROBE FILE TEXT: the check of the layout must fail with TEXT added to FILE. PROBE
@@ -80,10 +111,7 @@ planted_layout() {
         echo "  $1: not tried: '$2' fails"
         return
     fi
-    rm -rf "$work/copy"
-    mkdir "$work/copy"
-    (cd "$root" && tar -cf - --exclude=target .ci c crates crates.txt rust tools) |
-        tar -xf - -C "$work/copy"
+    copy_root
     printf '%b' "$4" >> "$work/copy/$3"
     expect 1 "$1" "$root/tools/check-layout.sh" "$work/copy"
 }
@@ -95,7 +123,9 @@ expect 0 "sound: secrets" "$root/tools/check-secrets.sh" "$work/sound" 1
 expect 0 "sound: stack" "$root/tools/check-stack.sh" "$work/sound"
 expect 0 "sound: archive" "$root/tools/check-archive.sh" "$work/sound"
 expect 0 "sound: header" "$root/tools/check-header.sh" "$work/sound"
+expect 0 "sound: constants" "$root/tools/check-constants.sh" "$work/sound"
 expect 0 "sound: install" "$root/tools/check-install.sh" "$work/sound"
+expect 0 "sound: bench" bench "$work/sound"
 expect 0 "sound: layout" "$root/tools/check-layout.sh"
 
 planted "tag compared by an early exit" \
@@ -195,6 +225,9 @@ planted "another start under the same format" \
 planted_install "another library's name for pkg-config" calmbaize.pc 's/-lcalmbaize/-lcalmbaise/'
 planted_install "another version for pkg-config" calmbaize.pc 's/^Version: /&1/'
 planted_install "another format, the same parcels" calmbaize.h 's/CALMBAIZE_FORMAT 1/CALMBAIZE_FORMAT 2/'
+planted_installer "LIBDIR not heeded" 's|^libdir=.*|libdir=$prefix/lib|'
+planted_installer "LIBDIR not heeded for pkg-config" 's|libdir=$(libdir_by_prefix)|libdir=\\${prefix}/lib|'
+planted_installer "a file left behind" 's| "$for_pkg_config" "$program"; do| "$program"; do|'
 
 planted "a timed call that is refused" \
     's/MAX_MESSAGE = 65536/MAX_MESSAGE = 65535/' \
@@ -206,12 +239,49 @@ planted_header "open's answer may be dropped" \
 planted_header "answers may be dropped in C++17" 's/NODISCARD \[\[nodiscard\]\]/NODISCARD/'
 planted_header "another version than Cargo.toml's" 's/VERSION_MINOR 1/VERSION_MINOR 2/'
 planted_header "another text of the version" 's/VERSION "0/&0/'
+planted_header "parts that only add up to the version" \
+    's/VERSION_MINOR 1/VERSION_MINOR 0/; s/VERSION_PATCH 0/VERSION_PATCH 1000/'
+
+planted_constants "a refusal under another number" 's/REFUSED_COUNT 11U/REFUSED_COUNT 14U/'
+planted_constants "two refusals exchanged" \
+    's/REFUSED_ROUNDS 2U/REFUSED_ROUNDS 1U/; s/REFUSED_MODE 1U/REFUSED_MODE 2U/'
+planted_constants "two back steps exchanged" \
+    's/STEP_BETA_BACK 5U/STEP_BETA_BACK 6U/; s/STEP_GAMMA_BACK 6U/STEP_GAMMA_BACK 5U/'
+planted_constants "the modes exchanged" 's/MODE_OPP 1U/MODE_OPP 2U/; s/MODE_MRO 2U/MODE_MRO 1U/'
+planted_constants "a limit that is too small" 's/STEPS_MAX 4096U/STEPS_MAX 4095U/'
+planted_constants "a limit that is too large" 's/COUNT_MAX 65536/COUNT_MAX 65537/'
+planted_constants "a length without the tag" 's/SEALED_BYTES_MAX .*/SEALED_BYTES_MAX 65536U/'
+planted_constants "a constant that no check holds" \
+    's/^#define CALMBAIZE_STEP_ALPHA 1U/&\n#define CALMBAIZE_STEP_DELTA 7U/'
+planted "another limit than the header's" \
+    's/MAX_HEADER = 4096/MAX_HEADER = 4097/' \
+    "$root/tools/check-constants.sh" "$faulty"
+planted "a place with every refusal" \
+    's/return (uint64_t)number << 32 | place;/return (uint64_t)number << 32 | (place + 1);/' \
+    "$root/tools/check-constants.sh" "$faulty"
 
 planted_layout "layout: Rust" "cargo fmt --version" rust/reference/src/lib.rs '\n\n\n'
 planted_layout "layout: a warning of clippy" "cargo clippy --version" rust/reference/src/lib.rs \
     '\n/// Planted.\npub fn planted(x: bool) -> bool {\n    x == true\n}\n'
 planted_layout "layout: Rattle" "rt version" crates/words/src/lib.rt '\n\n\n'
 planted_layout "layout: a warning of shellcheck" "shellcheck --version" tools/need.sh 'planted=1\n'
+
+echo none > "$faulty/libcalmbaize.a"
+for check in archive constants secrets stack; do
+    expect 2 "$check: an archive that is none" "$root/tools/check-$check.sh" "$faulty"
+done
+for check in constants header install; do
+    expect 2 "$check: no compiler" env CC="$work/none" "$root/tools/check-$check.sh" "$work/sound"
+done
+# Drops valgrind's options and runs the program bare.
+mkdir "$work/bare"
+printf '#!/bin/sh\nwhile [ "${1#--}" != "$1" ]; do shift; done\nexec "$@"\n' > "$work/bare/valgrind"
+chmod +x "$work/bare/valgrind"
+expect 2 "secrets: a program that is not under valgrind" \
+    env PATH="$work/bare:$PATH" "$root/tools/check-secrets.sh" "$work/sound" 1
+printf '#!/bin/sh\nexit 1\n' > "$work/bare/valgrind"
+expect 2 "secrets: a valgrind that can't run" \
+    env PATH="$work/bare:$PATH" "$root/tools/check-secrets.sh" "$work/sound" 1
 
 cargo build --quiet --offline --manifest-path "$root/rust/Cargo.toml" --package reference \
     --example maskwalk || exit 2

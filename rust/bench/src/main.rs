@@ -2,6 +2,7 @@
 //! C, libsodium's ciphers and the paper's figures.
 
 mod cases;
+mod counter;
 mod measure;
 mod plot;
 mod ratios;
@@ -24,10 +25,10 @@ usage: bench [OPTIONS]
 options:
   --docs FOLDER   write BENCHMARKS.md and benchmarks.svg there
   --gate FILE     the gate's times: a line for each crate, its name and its seconds
-  --batches N     batches of calls for each figure [500]
+  --batches N     batches of calls for each figure [500]; 0 makes each call and measures nothing
 
 The status is 1 where a timed call does not answer what it has to, or where a ratio is above
-its bound or was not measured.";
+its bound or was not measured, and 2 where the benchmarks could not run.";
 
 /// What is asked for.
 struct Options {
@@ -44,13 +45,15 @@ fn main() -> ExitCode {
             return ExitCode::from(2);
         }
     };
-    match run(options) {
-        Ok(()) => ExitCode::SUCCESS,
-        Err(message) => {
-            eprintln!("bench: {message}");
-            ExitCode::FAILURE
-        }
+    let (messages, status) = match run(options) {
+        Ok(faults) if faults.is_empty() => return ExitCode::SUCCESS,
+        Ok(faults) => (faults, 1),
+        Err(message) => (vec![message], 2),
+    };
+    for message in messages {
+        eprintln!("bench: {message}");
     }
+    ExitCode::from(status)
 }
 
 fn parse(mut args: impl Iterator<Item = String>) -> Result<Options, String> {
@@ -74,23 +77,27 @@ fn parse(mut args: impl Iterator<Item = String>) -> Result<Options, String> {
 }
 
 fn batches(text: &str) -> Result<usize, String> {
-    match text.parse() {
-        Ok(batches) if batches > 0 => Ok(batches),
-        _ => Err(format!("no number of batches: {text}")),
-    }
+    let number = text.parse();
+    number.map_err(|_| format!("no number of batches: {text}"))
 }
 
-/// Measures, writes the page, and only then fails where a ratio is above its bound.
-fn run(options: Options) -> Result<(), String> {
+/// Measures, writes the page, and gives back what is wrong: a call, or ratios above their bounds.
+fn run(options: Options) -> Result<Vec<String>, String> {
     let sodium = Sodium::load();
     if sodium.is_none() {
         eprintln!("bench: no libsodium found: install libsodium-dev for its rows");
     }
-    let samples = Samples::take(&mut cases::all(sodium.as_ref()), options.batches)?;
+    let samples = match Samples::take(&mut cases::all(sodium.as_ref()), options.batches) {
+        Ok(samples) => samples,
+        Err(fault) => return Ok(vec![fault]),
+    };
+    if options.batches == 0 {
+        return Ok(Vec::new());
+    }
     let setup = Setup {
         date: date(),
         processor: processor(),
-        gigahertz: measure::counter_speed(),
+        gigahertz: counter::speed(),
         batches: options.batches,
         gate: options.gate,
     };
@@ -101,11 +108,7 @@ fn run(options: Options) -> Result<(), String> {
         write(&docs, "benchmarks.svg", &plot::svg(&samples))?;
     }
     let ratios = Ratio::all();
-    let faults: Vec<String> = ratios.iter().filter_map(|r| r.fault(&samples)).collect();
-    if faults.is_empty() {
-        return Ok(());
-    }
-    Err(faults.join("\nbench: "))
+    Ok(ratios.iter().filter_map(|r| r.fault(&samples)).collect())
 }
 
 fn write(folder: &Path, name: &str, text: &str) -> Result<(), String> {

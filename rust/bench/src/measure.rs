@@ -1,8 +1,8 @@
 //! Timing the cases in turn.
 
 use crate::cases::{Case, Key};
-use std::arch::x86_64::{_mm_lfence, _rdtsc};
-use std::time::{Duration, Instant};
+use crate::counter::count;
+use std::time::Instant;
 
 /// A batch of calls takes about this many cycles or more, well above the cost of the two readings.
 const BATCH_CYCLES: u64 = 100_000;
@@ -74,36 +74,18 @@ fn batch_size(case: &mut Case) -> Result<u64, String> {
 /// The cycles of `calls` calls, after one that brings code and buffers into the caches.
 fn time(case: &mut Case, calls: u64) -> Result<u64, String> {
     let mut sound = case.make();
-    let begin = clock();
+    let begin = count();
     for _ in 0..calls {
         sound &= case.make();
     }
-    let cycles = clock() - begin;
+    let cycles = count() - begin;
     let (key, by) = (case.key, case.key.implementation);
     sound
         .then_some(cycles)
         .ok_or_else(|| format!("{key}, {by}: a timed call does not answer what it has to"))
 }
 
-/// The time stamp counter, once all that stands before is done.
-fn clock() -> u64 {
-    // SAFETY: every x86-64 processor has both instructions.
-    unsafe {
-        _mm_lfence();
-        let cycles = _rdtsc();
-        _mm_lfence();
-        cycles
-    }
-}
-
 fn median(mut values: Vec<f64>) -> f64 {
     values.sort_by(f64::total_cmp);
     values[values.len() / 2]
-}
-
-/// The counter's speed in GHz.
-pub fn counter_speed() -> f64 {
-    let (begin, cycles) = (Instant::now(), clock());
-    std::thread::sleep(Duration::from_millis(50));
-    (clock() - cycles) as f64 / begin.elapsed().as_nanos() as f64
 }

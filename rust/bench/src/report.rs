@@ -1,6 +1,7 @@
 //! The page of results.
 
 use crate::cases::{setting_name, settings, Implementation, Key, Operation, LENGTHS, OPERATIONS};
+use crate::counter;
 use crate::measure::Samples;
 use crate::ratios::Ratio;
 use crate::table::{grouped, Table};
@@ -35,11 +36,14 @@ pub struct Setup {
 pub fn page(setup: &Setup, samples: &Samples) -> String {
     let mut page = format!(
         "# Benchmarks\n\n\
-         Measured on {} on an {} by `make bench`. Cycles are those of the time stamp counter, \
-         {:.2} GHz. Each figure is the median of {} batches of calls; the implementations take \
+         Measured on {} on an {} by `make bench`. Cycles are those of {}, {:.2} GHz. Each figure is the median of {} batches of calls; the implementations take \
          turns batch by batch. Headers are empty.\n\n\
          ![Cycles per byte over length](benchmarks.svg)\n\n",
-        setup.date, setup.processor, setup.gigahertz, setup.batches,
+        setup.date,
+        setup.processor,
+        counter::NAME,
+        setup.gigahertz,
+        setup.batches,
     );
     let per_byte = |cycles: f64, len: usize| format!("{:.2}", cycles / len as f64);
     let per_call = |cycles: f64, _: usize| grouped(cycles.round() as usize);

@@ -3,42 +3,44 @@
 use crate::{fails, run, sealing, succeeds, KEY, NONCE};
 use calmbaize::Rounds;
 
+/// Arguments, and what the error says.
+const WRONG: [(&[&str], &str); 13] = [
+    (&[], "no command"),
+    (&["wrap"], "unknown command 'wrap'"),
+    (&["seal"], "--key or --key-file is needed"),
+    (&["seal", "--key", KEY], "--nonce or --nonce-file is needed"),
+    (&["seal", "--steps", "a"], "unknown option '--steps'"),
+    (&["seal", "--key"], "--key needs a value"),
+    (
+        &["seal", "--key", "0"],
+        "the value of --key is not pairs of hexadecimal digits",
+    ),
+    (
+        &["seal", "--key", KEY, "--key", KEY],
+        "--key is given twice",
+    ),
+    (
+        &["seal", "-o", "x", "--output=y"],
+        "--output is given twice",
+    ),
+    (
+        &["seal", "--key", KEY, "--key-file", "x"],
+        "--key and --key-file exclude each other",
+    ),
+    (&["walk", "--hex=1"], "--hex takes no value"),
+    (
+        &["jump", "--alpha", "x"],
+        "the value of --alpha is not a number in range",
+    ),
+    (
+        &["jump", "-g=-1"],
+        "--gamma has '=' behind its long name only",
+    ),
+];
+
 #[test]
 fn wrong_usage() {
-    let cases: [(&[&str], &str); 13] = [
-        (&[], "no command"),
-        (&["wrap"], "unknown command 'wrap'"),
-        (&["seal"], "--key or --key-file is needed"),
-        (&["seal", "--key", KEY], "--nonce or --nonce-file is needed"),
-        (&["seal", "--steps", "a"], "unknown option '--steps'"),
-        (&["seal", "--key"], "--key needs a value"),
-        (
-            &["seal", "--key", "0"],
-            "the value of --key is not pairs of hexadecimal digits",
-        ),
-        (
-            &["seal", "--key", KEY, "--key", KEY],
-            "--key is given twice",
-        ),
-        (
-            &["seal", "-o", "x", "--output=y"],
-            "--output is given twice",
-        ),
-        (
-            &["seal", "--key", KEY, "--key-file", "x"],
-            "--key and --key-file exclude each other",
-        ),
-        (&["walk", "--hex=1"], "--hex takes no value"),
-        (
-            &["jump", "--alpha", "x"],
-            "the value of --alpha is not a number in range",
-        ),
-        (
-            &["jump", "-g=-1"],
-            "--gamma has '=' behind its long name only",
-        ),
-    ];
-    for (args, message) in cases {
+    for (args, message) in WRONG {
         let error = fails(args, b"", 2);
         assert!(error.contains(message), "{error}");
     }

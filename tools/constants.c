@@ -1,0 +1,222 @@
+/*
+ * Holds the constants of calmbaize.h against the archive: each refusal is provoked, each length and
+ * limit passes where the next one is refused, and each mode and step byte does what its name says.
+ *
+ * Prints a line for each constant: "held" or "failed", and its name.
+ */
+#include <stdio.h>
+#include <string.h>
+
+#include "calmbaize.h"
+#include "settings.h"
+
+#define HOLD(name, truth) hold(#name, truth)
+#define REFUSE(name, answer) hold(#name, refused(answer, name))
+
+enum { BLOCK = CALMBAIZE_BLOCK_BYTES, TAG = CALMBAIZE_TAG_BYTES };
+
+/* Each has room for one byte more than is allowed. */
+static uint8_t key[CALMBAIZE_KEY_BYTES + 1], nonce[CALMBAIZE_NONCE_BYTES + 1];
+static uint8_t header[CALMBAIZE_HEADER_BYTES_MAX + 1], message[CALMBAIZE_MESSAGE_BYTES_MAX + 1];
+static uint8_t parcel[CALMBAIZE_SEALED_BYTES_MAX + 1], output[CALMBAIZE_SEALED_BYTES_MAX + 1];
+static uint8_t start[BLOCK + 1], steps[CALMBAIZE_STEPS_MAX + 1];
+
+/* The arguments, one of which gets another value than the usual one in each call below. */
+enum argument { MODE, ROUNDS, KEY, NONCE, HEADER, INPUT, OUTPUT, START, STEPS, ARGUMENTS };
+
+static void hold(const char *name, int truth)
+{
+    printf("%s %s\n", truth ? "held" : "failed", name);
+}
+
+typedef uint64_t call(enum argument other, size_t value);
+
+/* Of an empty message, into the parcel. */
+static uint64_t seal(enum argument other, size_t value)
+{
+    size_t a[ARGUMENTS] = {[MODE] = CALMBAIZE_MODE_OPP,
+                           [ROUNDS] = round_counts[0],
+                           [KEY] = CALMBAIZE_KEY_BYTES,
+                           [NONCE] = CALMBAIZE_NONCE_BYTES,
+                           [OUTPUT] = sizeof parcel};
+
+    a[other] = value;
+    return calmbaize_seal((uint32_t)a[MODE], (uint32_t)a[ROUNDS], key, a[KEY], nonce, a[NONCE],
+                          header, a[HEADER], message, a[INPUT], parcel, a[OUTPUT]);
+}
+
+/* Of the parcel. */
+static uint64_t open(enum argument other, size_t value)
+{
+    size_t a[ARGUMENTS] = {[INPUT] = TAG, [OUTPUT] = sizeof output};
+
+    a[other] = value;
+    return calmbaize_open(CALMBAIZE_MODE_OPP, round_counts[0], key, CALMBAIZE_KEY_BYTES, nonce,
+                          CALMBAIZE_NONCE_BYTES, header, 0, parcel, a[INPUT], output, a[OUTPUT]);
+}
+
+/* Of no steps. */
+static uint64_t walk(enum argument other, size_t value)
+{
+    size_t a[ARGUMENTS] = {[START] = BLOCK, [OUTPUT] = sizeof output};
+
+    a[other] = value;
+    return calmbaize_walk(start, a[START], steps, a[STEPS], output, a[OUTPUT]);
+}
+
+static uint64_t jump(int32_t alpha, int32_t beta, int32_t gamma)
+{
+    return calmbaize_jump(start, BLOCK, alpha, beta, gamma, output, sizeof output);
+}
+
+static int refused(uint64_t answer, uint32_t number)
+{
+    return calmbaize_refusal(answer) == number && number != CALMBAIZE_OK &&
+           calmbaize_place(answer) == 0 && calmbaize_written(answer) == 0;
+}
+
+static int wrote(uint64_t answer, size_t bytes)
+{
+    return calmbaize_refusal(answer) == CALMBAIZE_OK && calmbaize_written(answer) == bytes;
+}
+
+static int passes(uint64_t answer)
+{
+    return calmbaize_refusal(answer) == CALMBAIZE_OK;
+}
+
+/* The length passes, and one more is refused with the number. */
+static int most(call *call, enum argument argument, size_t len, uint32_t number)
+{
+    return passes(call(argument, len)) && refused(call(argument, len + 1), number);
+}
+
+/* One less is refused too. */
+static int just(call *call, enum argument argument, size_t len, uint32_t number)
+{
+    return most(call, argument, len, number) && refused(call(argument, len - 1), number);
+}
+
+static void lengths(void)
+{
+    HOLD(CALMBAIZE_KEY_BYTES, just(seal, KEY, CALMBAIZE_KEY_BYTES, CALMBAIZE_REFUSED_KEY_LENGTH));
+    HOLD(CALMBAIZE_NONCE_BYTES,
+         just(seal, NONCE, CALMBAIZE_NONCE_BYTES, CALMBAIZE_REFUSED_NONCE_LENGTH));
+    HOLD(CALMBAIZE_TAG_BYTES, wrote(seal(INPUT, 0), CALMBAIZE_TAG_BYTES));
+    HOLD(CALMBAIZE_BLOCK_BYTES,
+         just(walk, START, CALMBAIZE_BLOCK_BYTES, CALMBAIZE_REFUSED_START_LENGTH) &&
+             wrote(walk(STEPS, 0), CALMBAIZE_BLOCK_BYTES));
+    HOLD(CALMBAIZE_HEADER_BYTES_MAX,
+         most(seal, HEADER, CALMBAIZE_HEADER_BYTES_MAX, CALMBAIZE_REFUSED_HEADER_TOO_LONG));
+    HOLD(CALMBAIZE_MESSAGE_BYTES_MAX,
+         most(seal, INPUT, CALMBAIZE_MESSAGE_BYTES_MAX, CALMBAIZE_REFUSED_INPUT_TOO_LONG));
+    HOLD(CALMBAIZE_SEALED_BYTES_MAX,
+         wrote(seal(INPUT, CALMBAIZE_MESSAGE_BYTES_MAX), CALMBAIZE_SEALED_BYTES_MAX) &&
+             most(open, INPUT, CALMBAIZE_SEALED_BYTES_MAX, CALMBAIZE_REFUSED_INPUT_TOO_LONG));
+}
+
+static int count_refused(int32_t count)
+{
+    return refused(jump(count, 0, 0), CALMBAIZE_REFUSED_COUNT) &&
+           refused(jump(0, count, 0), CALMBAIZE_REFUSED_COUNT) &&
+           refused(jump(0, 0, count), CALMBAIZE_REFUSED_COUNT);
+}
+
+static void bounds_of_steps(void)
+{
+    const int32_t most_steps = CALMBAIZE_COUNT_MAX;
+
+    memset(steps, CALMBAIZE_STEP_ALPHA, sizeof steps);
+    HOLD(CALMBAIZE_STEPS_MAX,
+         most(walk, STEPS, CALMBAIZE_STEPS_MAX, CALMBAIZE_REFUSED_TOO_MANY_STEPS));
+    HOLD(CALMBAIZE_COUNT_MAX, passes(jump(most_steps, most_steps, most_steps)) &&
+                                  passes(jump(-most_steps, -most_steps, -most_steps)) &&
+                                  count_refused(most_steps + 1) && count_refused(-most_steps - 1));
+}
+
+/* Two messages that differ in their last byte: OPP's first blocks are alike, MRO's are not. */
+static int first_blocks_alike(uint32_t mode)
+{
+    uint8_t sealed[2][2 * BLOCK + TAG];
+
+    for (int i = 0; i < 2; i++) {
+        message[2 * BLOCK - 1] ^= 1;
+        if (!passes(calmbaize_seal(mode, round_counts[0], key, CALMBAIZE_KEY_BYTES, nonce,
+                                   CALMBAIZE_NONCE_BYTES, header, 0, message, 2 * BLOCK, sealed[i],
+                                   sizeof sealed[i])))
+            return -1;
+    }
+    return memcmp(sealed[0], sealed[1], BLOCK) == 0;
+}
+
+/* A walk of the one step goes where the jump goes. */
+static int steps_to(uint8_t step, int32_t alpha, int32_t beta, int32_t gamma)
+{
+    uint8_t reached[BLOCK];
+
+    return passes(calmbaize_walk(start, BLOCK, &step, 1, reached, sizeof reached)) &&
+           passes(jump(alpha, beta, gamma)) && memcmp(reached, output, BLOCK) == 0;
+}
+
+static void modes_and_steps(void)
+{
+    HOLD(CALMBAIZE_MODE_OPP, first_blocks_alike(CALMBAIZE_MODE_OPP) == 1);
+    HOLD(CALMBAIZE_MODE_MRO, first_blocks_alike(CALMBAIZE_MODE_MRO) == 0);
+    HOLD(CALMBAIZE_STEP_ALPHA, steps_to(CALMBAIZE_STEP_ALPHA, 1, 0, 0));
+    HOLD(CALMBAIZE_STEP_BETA, steps_to(CALMBAIZE_STEP_BETA, 0, 1, 0));
+    HOLD(CALMBAIZE_STEP_GAMMA, steps_to(CALMBAIZE_STEP_GAMMA, 0, 0, 1));
+    HOLD(CALMBAIZE_STEP_ALPHA_BACK, steps_to(CALMBAIZE_STEP_ALPHA_BACK, -1, 0, 0));
+    HOLD(CALMBAIZE_STEP_BETA_BACK, steps_to(CALMBAIZE_STEP_BETA_BACK, 0, -1, 0));
+    HOLD(CALMBAIZE_STEP_GAMMA_BACK, steps_to(CALMBAIZE_STEP_GAMMA_BACK, 0, 0, -1));
+}
+
+/* An empty message's parcel with one bit changed. */
+static uint64_t open_damaged(void)
+{
+    if (!wrote(seal(INPUT, 0), TAG))
+        return 0;
+    parcel[TAG - 1] ^= 1;
+    return open(INPUT, TAG);
+}
+
+/* The one refusal with a place. */
+static int step_refused_at(size_t place)
+{
+    uint8_t list[] = {1, 1, 1, 1};
+    uint64_t answer;
+
+    list[place] = 0;
+    answer = calmbaize_walk(start, BLOCK, list, sizeof list, output, sizeof output);
+    return calmbaize_refusal(answer) == CALMBAIZE_REFUSED_STEP && calmbaize_place(answer) == place &&
+           calmbaize_written(answer) == 0;
+}
+
+static void refusals(void)
+{
+    HOLD(CALMBAIZE_OK, wrote(seal(INPUT, 0), TAG) && wrote(open(INPUT, TAG), 0));
+    REFUSE(CALMBAIZE_REFUSED_MODE, seal(MODE, 0));
+    REFUSE(CALMBAIZE_REFUSED_ROUNDS, seal(ROUNDS, 0));
+    REFUSE(CALMBAIZE_REFUSED_KEY_LENGTH, seal(KEY, 0));
+    REFUSE(CALMBAIZE_REFUSED_NONCE_LENGTH, seal(NONCE, 0));
+    REFUSE(CALMBAIZE_REFUSED_HEADER_TOO_LONG, seal(HEADER, sizeof header));
+    REFUSE(CALMBAIZE_REFUSED_INPUT_TOO_LONG, seal(INPUT, sizeof message));
+    REFUSE(CALMBAIZE_REFUSED_OUTPUT_TOO_SHORT, seal(OUTPUT, TAG - 1));
+    REFUSE(CALMBAIZE_REFUSED_INPUT_TOO_SHORT, open(INPUT, TAG - 1));
+    REFUSE(CALMBAIZE_REFUSED_TAG, open_damaged());
+    REFUSE(CALMBAIZE_REFUSED_START_LENGTH, walk(START, 0));
+    REFUSE(CALMBAIZE_REFUSED_COUNT, jump(0, 0, INT32_MIN));
+    HOLD(CALMBAIZE_REFUSED_STEP, step_refused_at(0) && step_refused_at(3));
+    REFUSE(CALMBAIZE_REFUSED_TOO_MANY_STEPS, walk(STEPS, sizeof steps));
+}
+
+int main(void)
+{
+    /* Any block that the six steps take to six others. */
+    for (size_t i = 0; i < sizeof start; i++)
+        start[i] = (uint8_t)(i * i + 1);
+    lengths();
+    bounds_of_steps();
+    modes_and_steps();
+    refusals();
+    return 0;
+}
