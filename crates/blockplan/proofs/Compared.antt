@@ -86,7 +86,7 @@ module _ (b t : List ℕ) (h : Block b) (bytes : Bytes t) (e : length t ≡ 32) 
       tag-is b
       ∙ cat-ext (wordBytes b) (wordBytes (blockOf t)) 4
       (λ i p. ap (lowBytes 8) (sym (getD-take 4 b i 0 p) ∙ ap (λ (l : List ℕ). getD l i 0) q ∙ getD-take 4 (blockOf t) i 0 p))
-      ∙ sym (tag-is (blockOf t)) ∙ tag-of-block t e bytes
+      ∙ sym (tag-is (blockOf t)) ∙ tag-of-block t bytes e
 
   -- and the words agree where the tag is right
   by-tag : tagBytes b ≡ t → take 4 b ≡ take 4 (blockOf t)
