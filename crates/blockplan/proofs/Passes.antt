@@ -1,21 +1,22 @@
 -- Laws of a pass over whole blocks, whatever function gives their masks. Assumes nothing.
 use mathlib.Core.Path.{_≡_, refl, sym, ap, _∙_}
 use mathlib.Core.Bool.{Bool, false, cond}
-use mathlib.Core.List.{List, _++_}
+use mathlib.Core.List.{List, _++_, append-assoc}
 use Prim.Native.Nat.{ℕ, _+_, _-_, _*_, _≤_, _<_}
+use native.Mathlib.Nat.{add-zero}
 use native.Mathlib.Omega.{arith}
 use lib.ListN.{length, take, drop}
 use borrow.Rule.Slice.PartMut.{putMid}
 use Rattle.words.specs.Sequence.{cat, fold}
 use Rattle.words.specs.Block.{Block, bytesOf, xorBlock, zeroBlock}
-use Rattle.words.proofs.Lists.{appended, cat-ext, timesed}
+use Rattle.words.proofs.Lists.{cat-ext, cat-add, fronted, timesed}
 use Rattle.masks.specs.Steps.{alpha}
 use Rattle.mem.specs.Mem.{maskAt, E, D}
 use Rattle.mem.proofs.Laws.{mask-alpha}
 use Rattle.blockplan.specs.Plan.{blockAt, absorbAt, xorOver}
 use Rattle.blockplan.specs.Pass.{madeAt, bytesAt, plainAt, under, planned, stepping, Passed}
-use Rattle.blockplan.proofs.Sums.{summed, xorOver-ext}
-use Rattle.blockplan.proofs.Ciphered.{length-bytesAt}
+use Rattle.blockplan.proofs.Sums.{summed-more, xorOver-ext}
+use Rattle.blockplan.proofs.Ciphered.{front-length}
 
 -- ---- which masks
 
@@ -70,20 +71,41 @@ passed-agree opening rounds f g s n {old} agree p =
       reached = p .reached ∙ agree n (omega arith);
     }
 
--- ---- one block after the other
+-- ---- one block after the other, or several at a time
 
 module _ (opening : Bool) (rounds : ℕ) (mask : ℕ → List ℕ) (s : List ℕ) where
   pub passed-none : (old sum : List ℕ) → sum ≡ zeroBlock → Passed opening rounds mask s 0 old old sum (mask 0)
   unfolding cat xorOver fold
   passed-none old sum e = record { written = refl; summed = e; reached = refl }
 
-  -- block i came to the front of the part behind the blocks before it
-  pub passed-one : (i : ℕ) (old xs ys sum more at next : List ℕ) → 128 * i + 128 ≤ length old → Passed opening rounds mask s i old xs sum at
-      → ys ≡ bytesAt (under opening rounds mask) s i ++ drop 128 (take (length xs - 128 * i) (drop (128 * i) xs))
-      → more ≡ xorBlock sum (plainAt opening (under opening rounds mask) s i) → next ≡ mask (i + 1)
-      → Passed opening rounds mask s (i + 1) old (putMid (128 * i) (length xs - 128 * i) xs ys) more next
-  passed-one i old xs ys sum more at next h p w a r = record {
-    written = appended (bytesAt (under opening rounds mask) s) 128 i old xs ys (length-bytesAt (under opening rounds mask) s) h (p .written) w;
-    summed = summed (plainAt opening (under opening rounds mask) s) i sum more (p .summed) a;
-    reached = r;
-  }
+  -- the bytes of block i, and the block that the sum takes in
+  abbrev made : ℕ → List ℕ
+  made = bytesAt (under opening rounds mask) s
+
+  abbrev plain : ℕ → List ℕ
+  plain = plainAt opening (under opening rounds mask) s
+
+  module _ (i : ℕ) (old xs ys sum more at next : List ℕ) (p : Passed opening rounds mask s i old xs sum at) where
+    -- what came to the front of the part behind the blocks before
+    abbrev behind : ℕ → List ℕ
+    behind w = drop w (take (length xs - 128 * i) (drop (128 * i) xs))
+
+    pub passed-more : (k : ℕ) → ys ≡ cat (λ j. made (i + j)) k ++ behind (128 * k) → more ≡ fold (λ j t. xorBlock t (plain (i + j))) sum k → next ≡ mask (i + k)
+        → Passed opening rounds mask s (i + k) old (putMid (128 * i) (length xs - 128 * i) xs ys) more next
+    passed-more k w a r =
+        let far : 128 * i + 128 * k ≡ 128 * (i + k) = omega arith in record {
+          written = fronted (128 * i) (128 * k) (cat made i) (cat (λ j. made (i + j)) k) old xs ys (front-length (under opening rounds mask) s i) (p .written) w
+              ∙ rw (far, cat-add made i k, append-assoc);
+          summed = a ∙ summed-more plain i k sum (p .summed);
+          reached = r;
+        }
+
+    pub passed-one : ys ≡ made i ++ behind 128 → more ≡ xorBlock sum (plain i) → next ≡ mask (i + 1)
+        → Passed opening rounds mask s (i + 1) old (putMid (128 * i) (length xs - 128 * i) xs ys) more next
+    unfolding cat fold
+    passed-one w a r = passed-more 1 (rw (add-zero i) w) (rw (add-zero i) a) r
+
+    pub passed-two : ys ≡ made i ++ (made (i + 1) ++ behind 256) → more ≡ xorBlock (xorBlock sum (plain i)) (plain (i + 1)) → next ≡ mask (i + 2)
+        → Passed opening rounds mask s (i + 2) old (putMid (128 * i) (length xs - 128 * i) xs ys) more next
+    unfolding cat fold
+    passed-two w a r = passed-more 2 (rw (add-zero i, append-assoc) w) (rw (add-zero i) a) r

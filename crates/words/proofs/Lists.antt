@@ -176,3 +176,9 @@ pub tab-zeros : (f : ℕ → ℕ) (n m : ℕ) → ((i : ℕ) → n ≤ i → f i
 unfolding tab zeros
 tab-zeros f n zero h = rw (add-zero n, append-nil)
 tab-zeros f n (suc m) h = rw (add-suc n m, tab-zeros f n m h, h (n + m) (omega arith), append-assoc)
+
+-- k pieces more
+pub cat-add : (f : ℕ → List ℕ) (i k : ℕ) → cat f (i + k) ≡ cat f i ++ cat (λ j. f (i + j)) k
+unfolding cat
+cat-add f i zero = rw (add-zero i, append-nil)
+cat-add f i (suc k) = rw (add-suc i k, cat-add f i k, append-assoc)

@@ -72,7 +72,7 @@ loop-again c =
       within = omega arith;
       count-is = refl;
       long = omega (arith, c .before .before .out .given .1);
-      passed = passed-one true (a .rounds) (stepping (a .first)) (now (a .s)) (at .i) (now (a .out)) _ _ (at .sum) _ (at .mask) _ (omega arith) (at .inv .passed) (here .0) (here .1) step;
+      passed = passed-one true (a .rounds) (stepping (a .first)) (now (a .s)) (at .i) (now (a .out)) _ _ (at .sum) _ (at .mask) _ (at .inv .passed) (here .0) (here .1) step;
     }
 
 same-length : tie.Need-same-length Inv-loop μ-loop

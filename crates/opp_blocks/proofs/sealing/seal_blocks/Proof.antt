@@ -10,9 +10,8 @@ use Rattle.words.specs.Sequence.{times}
 use Rattle.words.proofs.Lists.{tailPart}
 use Rattle.blockplan.specs.Plan.{whole, blockAt}
 use Rattle.blockplan.specs.Pass.{madeAt, bytesAt, plainAt, under, stepping}
-use Rattle.blockplan.proofs.Passes.{stepping-on, passed-none, passed-one}
+use Rattle.blockplan.proofs.Passes.{stepping-on, passed-none, passed-one, passed-two}
 use Rattle.opp_blocks.proofs.Running.{Running}
-use Rattle.opp_blocks.proofs.Pairs.{passed-two}
 use borrow.Author.Needs.{needs}
 use Rattle.opp_blocks.proofs.sealing.seal_blocks.Statement.{statement}
 use Rattle.opp_blocks.proofs.sealing.seal_blocks.Tie as tie
@@ -78,11 +77,12 @@ loop-again c =
     let far : 128 * at .i + 128 ≡ 128 * (at .i + 1) = omega arith in
     let next = stepping-on (a .first) (at .mask) _ (at .i) (at .inv .passed .reached) (c .before .before .before .before .before .before .alpha .ensures) in
     let here = rw (tailPart (128 * at .i) (now (a .s)), drop-drop, far, next, at .inv .passed .reached) at (two .ensures) in
+    let two-on : at .i + 2 ≡ at .i + 1 + 1 = omega arith in
     let step = stepping-on (a .first) _ _ (at .i + 1) next (c .alpha2 .ensures) in record {
       within = omega arith;
       count-is = refl;
       long = omega (arith, c .before .before .out .given .1);
-      passed = passed-two (at .i) false (a .rounds) (stepping (a .first)) (now (a .s)) (now (a .out)) _ _ (at .sum) _ (at .mask) _ (at .inv .passed) (here .0) (here .1) step;
+      passed = passed-two false (a .rounds) (stepping (a .first)) (now (a .s)) (at .i) (now (a .out)) _ _ (at .sum) _ (at .mask) _ (at .inv .passed) (here .0) (here .1) (rw two-on step);
     }
 
 same-length : tie.Need-same-length Inv-loop μ-loop
@@ -135,7 +135,7 @@ returns-2 c =
     let here = rw (tailPart (128 * at .i) (now (a .s)), at .inv .passed .reached) at (one .ensures) in
     let step = stepping-on (a .first) (at .mask) _ (at .i) (at .inv .passed .reached) (c .alpha3 .ensures) in
     let e : at .i + 1 ≡ length (now (a .s)) / 128 = omega arith in
-    rw e at (passed-one false (a .rounds) (stepping (a .first)) (now (a .s)) (at .i) (now (a .out)) _ _ (at .sum) _ (at .mask) _ (omega arith) (at .inv .passed) (here .0) (here .1) step)
+    rw e at (passed-one false (a .rounds) (stepping (a .first)) (now (a .s)) (at .i) (now (a .out)) _ _ (at .sum) _ (at .mask) _ (at .inv .passed) (here .0) (here .1) step)
 
 pub seal-blocks-spec : {M : Type 1} → statement M
 seal-blocks-spec =
