@@ -59,7 +59,7 @@ module _ (rounds : ℕ) (start s : List ℕ) (l : Block start) where
       unfolding written planned xorIf
       all-whole e = record {
         all-written = written-whole (turn opening) (oppStream rounds start) s old new (p .written) e;
-        checked = p .summed ∙ rw (check-is opening, no-left s e);
+        all-checked = p .summed ∙ rw (check-is opening, no-left s e);
         last-mask = p .reached ∙ rw (no-left s e);
       }
 
@@ -83,7 +83,7 @@ module _ (rounds : ℕ) (start s : List ℕ) (l : Block start) where
       unfolding written xorIf
       all-left ys check mask q w a m = record {
         all-written = written-left (turn opening) (oppStream rounds start) s old new (p .written) ys (rw stream-is at w);
-        checked = a ∙ rw (check-is opening, some-left s q, stream-is, p .summed);
+        all-checked = a ∙ rw (check-is opening, some-left s q, stream-is, p .summed);
         last-mask = m ∙ rw (some-left s q) mask-left;
       }
 
@@ -112,4 +112,4 @@ module _ (rounds : ℕ) (start s : List ℕ) (l : Block start) where
     tag-is opening header block {old} {new} {check} {mask} p e =
         let at : beta (beta mask) ≡ maskAt start (whole (plain opening rounds start s)) (cond (hasLeft (plain opening rounds start s)) 3 2) 1 =
         rw (p .last-mask, whole-plain opening, hasLeft-plain opening) (two-on (hasLeft s)) in
-        ap tagBytes (e ∙ ap₂ (λ (n b : List ℕ). xorBlock (oppSum rounds start header) (encipher rounds n b)) at (p .checked))
+        ap tagBytes (e ∙ ap₂ (λ (n b : List ℕ). xorBlock (oppSum rounds start header) (encipher rounds n b)) at (p .all-checked))

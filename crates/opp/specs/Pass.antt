@@ -20,5 +20,5 @@ plain opening rounds start s = cond opening (written opening rounds start s) s
 -- all of s is passed: its bytes are in front of what the output had, the check is that of the message, and the last mask is (m, 0, 1), or (m, 1, 1) where there is a leftover
 pub record AllPassed (opening : Bool) (rounds : ℕ) (start s old new check mask : List ℕ) : Type 0 where
   pub all-written : new ≡ written opening rounds start s ++ drop (length s) old
-  pub checked : check ≡ oppCheck (plain opening rounds start s)
+  pub all-checked : check ≡ oppCheck (plain opening rounds start s)
   pub last-mask : mask ≡ maskAt start (whole s) (cond (hasLeft s) 1 0) 1

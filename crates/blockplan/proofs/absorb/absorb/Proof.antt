@@ -54,9 +54,7 @@ part-rest-end : tie.Need-part-rest-end Inv-loop μ-loop
 part-rest-end c = search needs
 
 loop-less : tie.Need-loop-less Inv-loop μ-loop
-loop-less c =
-    let rest = now (c .before .before .before .before .before .before .loop .rest) in
-    rw (tailPart 128 rest) (simp length-drop (omega arith))
+loop-less c = simp (tailPart, length-drop) (omega arith)
 
 loop-again : tie.Need-loop-again Inv-loop μ-loop
 unfolding madeAt under blockAt
@@ -67,7 +65,7 @@ loop-again c =
     let s = now (c .before .before .before .before .before .before .before .before .before .args .s) in (
       i + 1,
       (
-        rw (tailPart 128 rest) (simp length-drop (omega arith)),
+        simp (tailPart, length-drop) (omega arith),
         (
           nextPart 128 i rest s (at .inv .1 .1 .0),
           (
