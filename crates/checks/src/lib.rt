@@ -25,9 +25,17 @@ fn is_rounds(rounds: u32) -> bool
     rounds == 4 || rounds == 6
 }
 
+// The lengths of a call's inputs; the last is the message or the parcel.
+pub struct Lengths {
+    pub key: usize,
+    pub nonce: usize,
+    pub header: usize,
+    pub input: usize,
+}
+
 // What both calls check first.
-fn check_settings(mode: u32, rounds: u32, key: usize, nonce: usize, header: usize) -> Check
-    ensures { λ r. ⌜ r ≡ settings mode rounds key nonce header Clear ⌝ }
+fn check_settings(mode: u32, rounds: u32, of: Lengths) -> Check
+    ensures { λ r. ⌜ r ≡ settings mode rounds (of .key) (of .nonce) (of .header) Clear ⌝ }
 {
     if !is_mode(mode) {
         return Check::Fails(Ground::Mode, 0);
@@ -35,97 +43,67 @@ fn check_settings(mode: u32, rounds: u32, key: usize, nonce: usize, header: usiz
     if !is_rounds(rounds) {
         return Check::Fails(Ground::Rounds, 0);
     }
-    if key != 32 {
+    if of.key != 32 {
         return Check::Fails(Ground::KeyLength, 0);
     }
-    if nonce != 16 {
+    if of.nonce != 16 {
         return Check::Fails(Ground::NonceLength, 0);
     }
-    if header > 4096 {
+    if of.header > 4096 {
         return Check::Fails(Ground::HeaderLength, 0);
     }
     Check::Clear
 }
 
 // Seal's checks but for the output's length.
-fn check_message(
-    mode: u32,
-    rounds: u32,
-    key: usize,
-    nonce: usize,
-    header: usize,
-    message: usize,
-) -> Check
-    ensures { λ r. ⌜ r ≡ sealInputs mode rounds key nonce header message Clear ⌝ }
+fn check_message(mode: u32, rounds: u32, of: Lengths) -> Check
+    ensures { λ r. ⌜ r ≡ sealInputs mode rounds (of .key) (of .nonce) (of .header) (of .input) Clear ⌝ }
 {
-    let found = check_settings(mode, rounds, key, nonce, header);
+    let found = check_settings(mode, rounds, of);
     if let Check::Fails(ground, place) = found {
         return Check::Fails(ground, place);
     }
-    if message > MOST_MESSAGE {
+    if of.input > MOST_MESSAGE {
         return Check::Fails(Ground::InputLength, 0);
     }
     Check::Clear
 }
 
 // Open's checks but for the output's length and the tag.
-fn check_parcel(
-    mode: u32,
-    rounds: u32,
-    key: usize,
-    nonce: usize,
-    header: usize,
-    parcel: usize,
-) -> Check
-    ensures { λ r. ⌜ r ≡ openInputs mode rounds key nonce header parcel Clear ⌝ }
+fn check_parcel(mode: u32, rounds: u32, of: Lengths) -> Check
+    ensures { λ r. ⌜ r ≡ openInputs mode rounds (of .key) (of .nonce) (of .header) (of .input) Clear ⌝ }
 {
-    let found = check_settings(mode, rounds, key, nonce, header);
+    let found = check_settings(mode, rounds, of);
     if let Check::Fails(ground, place) = found {
         return Check::Fails(ground, place);
     }
-    if parcel < TAG {
+    if of.input < TAG {
         return Check::Fails(Ground::TagMissing, 0);
     }
-    if parcel > MOST_MESSAGE + TAG {
+    if of.input > MOST_MESSAGE + TAG {
         return Check::Fails(Ground::InputLength, 0);
     }
     Check::Clear
 }
 
 // Seal's checks.
-pub fn check_seal(
-    mode: u32,
-    rounds: u32,
-    key: usize,
-    nonce: usize,
-    header: usize,
-    message: usize,
-    out: usize,
-) -> Check
-    ensures { λ r. ⌜ r ≡ sealChecks mode rounds key nonce header message out ⌝ }
+pub fn check_seal(mode: u32, rounds: u32, of: Lengths, out: usize) -> Check
+    ensures { λ r. ⌜ r ≡ sealChecks mode rounds (of .key) (of .nonce) (of .header) (of .input) out ⌝ }
 {
-    let found = check_message(mode, rounds, key, nonce, header, message);
+    let found = check_message(mode, rounds, of);
     if let Check::Fails(ground, place) = found {
         return Check::Fails(ground, place);
     }
-    room(message + TAG, out)
+    room(of.input + TAG, out)
 }
 
 // Open's checks but for the tag.
-pub fn check_open(
-    mode: u32,
-    rounds: u32,
-    key: usize,
-    nonce: usize,
-    header: usize,
-    parcel: usize,
-    out: usize,
-) -> Check
-    ensures { λ r. ⌜ r ≡ openChecks mode rounds key nonce header parcel out ⌝ }
+pub fn check_open(mode: u32, rounds: u32, of: Lengths, out: usize) -> Check
+    ensures { λ r. ⌜ r ≡ openChecks mode rounds (of .key) (of .nonce) (of .header) (of .input) out ⌝ }
 {
-    let found = check_parcel(mode, rounds, key, nonce, header, parcel);
+    let found = check_parcel(mode, rounds, of);
     if let Check::Fails(ground, place) = found {
         return Check::Fails(ground, place);
     }
-    room(parcel - TAG, out)
+    room(of.input - TAG, out)
 }

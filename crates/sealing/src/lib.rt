@@ -2,6 +2,7 @@
 use answers::Answer;
 use answers::Check;
 use answers::Ground;
+use checks::Lengths;
 use checks::check_open;
 use checks::check_seal;
 use mem::start::start;
@@ -21,18 +22,17 @@ pub fn seal(
     ensures { λ r. ⌜ (r, now (out .exit)) ≡ sealCall mode rounds (now (key .entry)) (now (nonce .entry)) (now (header .entry)) (now (message .entry)) (now (out .entry)) ⌝ }
 {
     let n = message.len();
-    let found = check_seal(
-        mode,
-        rounds,
-        key.len(),
-        nonce.len(),
-        header.len(),
-        n,
-        out.len(),
-    );
+    let lengths = Lengths {
+        key: key.len(),
+        nonce: nonce.len(),
+        header: header.len(),
+        input: n,
+    };
+    let found = check_seal(mode, rounds, lengths, out.len());
     if let Check::Fails(ground, place) = found {
         return Answer::Refused(ground, place);
     }
+    let written = n + 32;
     modes::seal(
         start(key, nonce, rounds),
         mode,
@@ -41,7 +41,7 @@ pub fn seal(
         message,
         out,
     );
-    Answer::Done((n + 32) as u64)
+    Answer::Done(written as u64)
 }
 
 // The message of a genuine parcel.
@@ -57,15 +57,13 @@ pub fn open(
     ensures { λ r. ⌜ (r, now (out .exit)) ≡ openCall mode rounds (now (key .entry)) (now (nonce .entry)) (now (header .entry)) (now (parcel .entry)) (now (out .entry)) ⌝ }
 {
     let n = parcel.len();
-    let found = check_open(
-        mode,
-        rounds,
-        key.len(),
-        nonce.len(),
-        header.len(),
-        n,
-        out.len(),
-    );
+    let lengths = Lengths {
+        key: key.len(),
+        nonce: nonce.len(),
+        header: header.len(),
+        input: n,
+    };
+    let found = check_open(mode, rounds, lengths, out.len());
     if let Check::Fails(ground, place) = found {
         return Answer::Refused(ground, place);
     }

@@ -28,17 +28,17 @@ returns c = sym (stopped _ _ (settings-after _ _ _ _ _ _) (sym (c .before .befor
 returns-2 : tie.Need-returns-2
 unfolding sealInputs line lineAt
 returns-2 c =
-    let n = c .before .before .before .before .args .message in
+    let n = c .before .before .before .before .before .args .of .input in
     sym
-    (passed-on _ _ (settings-after _ _ _ _ _ (line (ltb 65536 n) InputLength Clear)) (sym (c .before .before .before .check-settings .ensures) ∙ c .before .enum-told .given .1)
+    (passed-on _ _ (settings-after _ _ _ _ _ (line (ltb 65536 n) InputLength Clear)) (sym (c .before .before .before .before .check-settings .ensures) ∙ c .before .before .enum-told .given .1)
     ∙ rw (lt-ltb 65536 n (c .if1 .taken)))
 
 returns-3 : tie.Need-returns-3
 unfolding sealInputs line lineAt
 returns-3 c =
-    let n = c .before .before .before .before .args .message in
+    let n = c .before .before .before .before .before .args .of .input in
     sym
-    (passed-on _ _ (settings-after _ _ _ _ _ (line (ltb 65536 n) InputLength Clear)) (sym (c .before .before .before .check-settings .ensures) ∙ c .before .enum-told .given .1)
+    (passed-on _ _ (settings-after _ _ _ _ _ (line (ltb 65536 n) InputLength Clear)) (sym (c .before .before .before .before .check-settings .ensures) ∙ c .before .before .enum-told .given .1)
     ∙ rw (le-ltb 65536 n (c .if1 .left)))
 
 pub check-message-spec : {M : Type 1} → statement M

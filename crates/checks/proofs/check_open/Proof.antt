@@ -21,14 +21,14 @@ unfolding openChecks
 returns c = sym (stopped _ _ (open-after _ _ _ _ _ _ _) (sym (c .before .before .before .check-parcel .ensures) ∙ c .before .found .given .1))
 
 sub-room : tie.Need-sub-room
-sub-room c = open-inputs _ _ _ _ _ _ (sym (c .before .before .check-parcel .ensures) ∙ c .enum-told .given .1) .1 .0
+sub-room c = open-inputs _ _ _ _ _ _ (sym (c .before .before .before .check-parcel .ensures) ∙ c .before .enum-told .given .1) .1 .0
 
 room-requires : tie.Need-room-requires
 room-requires c κs = search needs
 
 returns-2 : tie.Need-returns-2
 unfolding openChecks
-returns-2 c = c .room .ensures ∙ sym (passed-on _ _ (open-after _ _ _ _ _ _ _) (sym (c .before .before .before .check-parcel .ensures) ∙ c .before .enum-told .given .1))
+returns-2 c = c .room .ensures ∙ sym (passed-on _ _ (open-after _ _ _ _ _ _ _) (sym (c .before .before .before .before .check-parcel .ensures) ∙ c .before .before .enum-told .given .1))
 
 pub check-open-spec : {M : Type 1} → statement M
 check-open-spec =

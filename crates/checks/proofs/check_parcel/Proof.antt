@@ -31,26 +31,26 @@ returns c = sym (stopped _ _ (settings-after _ _ _ _ _ _) (sym (c .before .befor
 returns-2 : tie.Need-returns-2
 unfolding openInputs line lineAt
 returns-2 c =
-    let n = c .before .before .before .before .args .parcel in
+    let n = c .before .before .before .before .before .args .of .input in
     sym
-    (passed-on _ _ (settings-after _ _ _ _ _ (line (ltb n 32) TagMissing (line (ltb 65568 n) InputLength Clear))) (sym (c .before .before .before .check-settings .ensures) ∙ c .before .enum-told .given .1)
+    (passed-on _ _ (settings-after _ _ _ _ _ (line (ltb n 32) TagMissing (line (ltb 65568 n) InputLength Clear))) (sym (c .before .before .before .before .check-settings .ensures) ∙ c .before .before .enum-told .given .1)
     ∙ rw (lt-ltb n 32 (c .if1 .taken)))
 
 returns-3 : tie.Need-returns-3
 unfolding openInputs line lineAt
 returns-3 c =
-    let n = c .before .before .before .before .before .args .parcel in
+    let n = c .before .before .before .before .before .before .before .args .of .input in
     sym
-    (passed-on _ _ (settings-after _ _ _ _ _ (line (ltb n 32) TagMissing (line (ltb 65568 n) InputLength Clear))) (sym (c .before .before .before .before .check-settings .ensures) ∙ c .before .before .enum-told .given .1)
-    ∙ rw (le-ltb n 32 (c .before .if1 .left), lt-ltb 65568 n (c .if2 .taken)))
+    (passed-on _ _ (settings-after _ _ _ _ _ (line (ltb n 32) TagMissing (line (ltb 65568 n) InputLength Clear))) (sym (c .before .before .before .before .before .before .check-settings .ensures) ∙ c .before .before .before .before .enum-told .given .1)
+    ∙ rw (le-ltb n 32 (c .before .before .if1 .left), lt-ltb 65568 n (c .if2 .taken)))
 
 returns-4 : tie.Need-returns-4
 unfolding openInputs line lineAt
 returns-4 c =
-    let n = c .before .before .before .before .before .args .parcel in
+    let n = c .before .before .before .before .before .before .before .args .of .input in
     sym
-    (passed-on _ _ (settings-after _ _ _ _ _ (line (ltb n 32) TagMissing (line (ltb 65568 n) InputLength Clear))) (sym (c .before .before .before .before .check-settings .ensures) ∙ c .before .before .enum-told .given .1)
-    ∙ rw (le-ltb n 32 (c .before .if1 .left), le-ltb 65568 n (c .if2 .left)))
+    (passed-on _ _ (settings-after _ _ _ _ _ (line (ltb n 32) TagMissing (line (ltb 65568 n) InputLength Clear))) (sym (c .before .before .before .before .before .before .check-settings .ensures) ∙ c .before .before .before .before .enum-told .given .1)
+    ∙ rw (le-ltb n 32 (c .before .before .if1 .left), le-ltb 65568 n (c .if2 .left)))
 
 pub check-parcel-spec : {M : Type 1} → statement M
 check-parcel-spec =

@@ -22,14 +22,14 @@ unfolding sealChecks
 returns c = sym (stopped _ _ (seal-after _ _ _ _ _ _ _) (sym (c .before .before .before .check-message .ensures) ∙ c .before .found .given .1))
 
 add-room : tie.Need-add-room
-add-room c = record { fits = omega (arith, seal-inputs _ _ _ _ _ _ (sym (c .before .before .check-message .ensures) ∙ c .enum-told .given .1) .1) }
+add-room c = record { fits = omega (arith, seal-inputs _ _ _ _ _ _ (sym (c .before .before .before .check-message .ensures) ∙ c .before .enum-told .given .1) .1) }
 
 room-requires : tie.Need-room-requires
 room-requires c κs = search needs
 
 returns-2 : tie.Need-returns-2
 unfolding sealChecks
-returns-2 c = c .room .ensures ∙ sym (passed-on _ _ (seal-after _ _ _ _ _ _ _) (sym (c .before .before .before .check-message .ensures) ∙ c .before .enum-told .given .1))
+returns-2 c = c .room .ensures ∙ sym (passed-on _ _ (seal-after _ _ _ _ _ _ _) (sym (c .before .before .before .before .check-message .ensures) ∙ c .before .before .enum-told .given .1))
 
 pub check-seal-spec : {M : Type 1} → statement M
 check-seal-spec =

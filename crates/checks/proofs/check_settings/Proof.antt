@@ -22,19 +22,23 @@ returns-2 c = simp (← (c .before .before .before .is-mode .ensures), c .before
 
 returns-3 : tie.Need-returns-3
 unfolding settings line lineAt
-returns-3 c = simp (← (c .before .before .before .before .is-mode .ensures), c .before .before .before .if1 .left, ← (c .before .before .is-rounds .ensures), c .before .if2 .left, ne-eqb _ _ (c .if3 .taken))
+returns-3 c =
+    simp (← (c .before .before .before .before .before .is-mode .ensures), c .before .before .before .before .if1 .left, ← (c .before .before .before .is-rounds .ensures), c .before .before .if2 .left, ne-eqb _ _ (c .if3 .taken))
 
 returns-4 : tie.Need-returns-4
 unfolding settings line lineAt
-returns-4 c = simp (← (c .before .before .before .before .before .is-mode .ensures), c .before .before .before .before .if1 .left, ← (c .before .before .before .is-rounds .ensures), c .before .before .if2 .left, eq-eqb _ _ (c .before .if3 .left), ne-eqb _ _ (c .if4 .taken))
+returns-4 c =
+    simp (← (c .before .before .before .before .before .before .before .is-mode .ensures), c .before .before .before .before .before .before .if1 .left, ← (c .before .before .before .before .before .is-rounds .ensures), c .before .before .before .before .if2 .left, eq-eqb _ _ (c .before .before .if3 .left), ne-eqb _ _ (c .if4 .taken))
 
 returns-5 : tie.Need-returns-5
 unfolding settings line lineAt
-returns-5 c = simp (← (c .before .before .before .before .before .before .is-mode .ensures), c .before .before .before .before .before .if1 .left, ← (c .before .before .before .before .is-rounds .ensures), c .before .before .before .if2 .left, eq-eqb _ _ (c .before .before .if3 .left), eq-eqb _ _ (c .before .if4 .left), lt-ltb _ _ (c .if5 .taken))
+returns-5 c =
+    simp (← (c .before .before .before .before .before .before .before .before .before .is-mode .ensures), c .before .before .before .before .before .before .before .before .if1 .left, ← (c .before .before .before .before .before .before .before .is-rounds .ensures), c .before .before .before .before .before .before .if2 .left, eq-eqb _ _ (c .before .before .before .before .if3 .left), eq-eqb _ _ (c .before .before .if4 .left), lt-ltb _ _ (c .if5 .taken))
 
 returns-6 : tie.Need-returns-6
 unfolding settings line lineAt
-returns-6 c = simp (← (c .before .before .before .before .before .before .is-mode .ensures), c .before .before .before .before .before .if1 .left, ← (c .before .before .before .before .is-rounds .ensures), c .before .before .before .if2 .left, eq-eqb _ _ (c .before .before .if3 .left), eq-eqb _ _ (c .before .if4 .left), le-ltb _ _ (c .if5 .left))
+returns-6 c =
+    simp (← (c .before .before .before .before .before .before .before .before .before .is-mode .ensures), c .before .before .before .before .before .before .before .before .if1 .left, ← (c .before .before .before .before .before .before .before .is-rounds .ensures), c .before .before .before .before .before .before .if2 .left, eq-eqb _ _ (c .before .before .before .before .if3 .left), eq-eqb _ _ (c .before .before .if4 .left), le-ltb _ _ (c .if5 .left))
 
 pub check-settings-spec : {M : Type 1} → statement M
 check-settings-spec =

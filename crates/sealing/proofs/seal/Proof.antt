@@ -1,5 +1,6 @@
 -- What the checks find is refused; where they are clear, the parcel is written. Assumes nothing.
 use mathlib.Core.Path.{_∙_, sym}
+use native.Mathlib.Omega.{arith}
 use Rattle.answers.proofs.Values.{refused, allowed}
 use Rattle.checks.proofs.Clears.{seal-clear}
 use Rattle.sealing.specs.Sealing.{sealFrom, sealCall}
@@ -20,14 +21,14 @@ returns c = refused _ _ _ _ (c .before .before .before .check-seal .ensures) (c 
 enum-told : tie.Need-enum-told
 enum-told c = search needs
 
+add-written : tie.Need-add-written
+add-written c = record { fits = omega (arith, seal-clear _ _ _ _ _ _ _ (sym (c .before .before .check-seal .ensures) ∙ c .enum-told .given .1) .1 .0) }
+
 start-requires : tie.Need-start-requires
 start-requires c κs = seal-clear _ _ _ _ _ _ _ (sym (c .before .before .check-seal .ensures) ∙ c .enum-told .given .1) .0
 
 seal-requires : tie.Need-seal-requires
 seal-requires c κs = seal-clear _ _ _ _ _ _ _ (sym (c .before .before .before .before .check-seal .ensures) ∙ c .before .before .enum-told .given .1) .1 .1
-
-add-t12 : tie.Need-add-t12
-add-t12 c = search needs
 
 same-length : tie.Need-same-length
 same-length c = search needs
@@ -40,4 +41,4 @@ returns-2 c =
 pub seal-spec : {M : Type 1} → statement M
 seal-spec =
     tie.close
-    (tie.spec check-seal-requires enum-known-found returns enum-told start-requires seal-requires add-t12 same-length returns-2)
+    (tie.spec check-seal-requires enum-known-found returns enum-told add-written start-requires seal-requires same-length returns-2)
