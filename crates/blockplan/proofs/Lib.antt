@@ -4,5 +4,4 @@ pub mod Ciphered
 pub mod Passes
 pub mod Tags
 pub mod Compared
-pub mod Kept
 pub mod Parcels

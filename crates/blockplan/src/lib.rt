@@ -1,7 +1,6 @@
-// What both modes do with bytes: whole blocks summed under stepping masks, a leftover, and the tag.
+// What both modes do with bytes: whole blocks summed under stepping masks, and a leftover.
 pub mod absorb;
 pub mod leftover;
-pub mod tag;
 
 // A sum of blocks, and the mask of the next block.
 pub struct Summed {

@@ -3,8 +3,8 @@
 use crate::stream::load_tag;
 use crate::stream::xor_stream;
 use crate::sums::tag_block;
-use blockplan::tag::store_tag;
-use blockplan::tag::verify;
+use tags::store_tag;
+use tags::verify;
 ghost use mathlib.Core.Path.{_≡_};
 ghost use mathlib.Core.List.{_++_};
 ghost use Prim.Native.Nat.{_+_, _≤_};

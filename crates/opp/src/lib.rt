@@ -2,8 +2,8 @@
 // block to block.
 use crate::message::pass;
 use crate::tag::tag_block;
-use blockplan::tag::store_tag;
-use blockplan::tag::verify;
+use tags::store_tag;
+use tags::verify;
 ghost use mathlib.Core.Path.{_≡_};
 ghost use mathlib.Core.List.{_++_};
 ghost use Prim.Native.Nat.{_+_, _≤_};

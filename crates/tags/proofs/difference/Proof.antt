@@ -6,10 +6,10 @@ use native.Mathlib.Omega.{arith}
 use lib.ListN.{length-drop}
 use Rattle.words.specs.Block.{wordAt, blockOf}
 use Rattle.words.proofs.Lists.{tailPart, getD-tab}
 use Rattle.blockplan.specs.Compare.{differing}
 use borrow.Author.Needs.{needs}
-use Rattle.blockplan.proofs.tag.difference.Statement.{statement}
-use Rattle.blockplan.proofs.tag.difference.Tie as tie
+use Rattle.tags.proofs.difference.Statement.{statement}
+use Rattle.tags.proofs.difference.Tie as tie
 
 abbrev Inv-loop : tie.InvT-loop
 Inv-loop tag b differ₀ i₀ differ i = (i ≤ 4) × (differ ≡ differing b (blockOf tag) i)

@@ -1,8 +1,8 @@
 -- The word's bits or'ed into the lowest one, as a law has it. Assumes nothing.
-use Rattle.blockplan.proofs.Kept.{orUp, maskOf, mask-is}
+use Rattle.tags.proofs.Kept.{orUp, maskOf, mask-is}
 use borrow.Author.Needs.{needs}
-use Rattle.blockplan.proofs.tag.mask_of.Statement.{statement}
-use Rattle.blockplan.proofs.tag.mask_of.Tie as tie
+use Rattle.tags.proofs.mask_of.Statement.{statement}
+use Rattle.tags.proofs.mask_of.Tie as tie
 
 cast-result : tie.Need-cast-result
 cast-result c = search needs

@@ -8,12 +8,12 @@ use Rattle.words.specs.Block.{Block, Bytes}
 use Rattle.words.proofs.Lists.{tailPart}
 use Rattle.words.proofs.Arrays.{array-block}
 use Rattle.words.proofs.Blocks.{bytes-drop}
 use Rattle.blockplan.specs.Parcel.{tagPart}
 use Rattle.blockplan.specs.Compare.{verified}
-use Rattle.blockplan.proofs.Compared.{judged}
+use Rattle.tags.proofs.Judged.{judged}
 use borrow.Author.Needs.{needs}
-use Rattle.blockplan.proofs.tag.verify.Statement.{statement}
-use Rattle.blockplan.proofs.tag.verify.Tie as tie
+use Rattle.tags.proofs.verify.Statement.{statement}
+use Rattle.tags.proofs.verify.Tie as tie
 
 sub-n : tie.Need-sub-n
 sub-n c = search needs

@@ -6,10 +6,10 @@ use Rattle.words.specs.Block.{wordBytes}
 use Rattle.words.proofs.Lists.{tailPart}
 use Rattle.words.proofs.Loops.{Writing, writing-none, writing-more, writing-done}
 use Rattle.words.proofs.Blocks.{length-wordBytes}
 use Rattle.blockplan.proofs.Tags.{tag-is}
 use borrow.Author.Needs.{needs}
-use Rattle.blockplan.proofs.tag.store_tag.Statement.{statement}
-use Rattle.blockplan.proofs.tag.store_tag.Tie as tie
+use Rattle.tags.proofs.store_tag.Statement.{statement}
+use Rattle.tags.proofs.store_tag.Tie as tie
 
 abbrev Inv-loop : tie.InvT-loop
 Inv-loop out₀ b i₀ out i = Writing (wordBytes b) 8 4 out₀ out i

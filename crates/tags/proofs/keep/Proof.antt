@@ -9,10 +9,10 @@ use lib.Dec.{eqb}
 use lib.Bits.{bitAnd}
 use Rattle.words.specs.Sequence.{tab}
 use Rattle.words.proofs.Lists.{placed, untouched}
-use Rattle.blockplan.proofs.Kept.{keptAt, masked, kept}
+use Rattle.tags.proofs.Kept.{keptAt, masked, kept}
 use borrow.Author.Needs.{needs}
-use Rattle.blockplan.proofs.tag.keep.Statement.{statement}
-use Rattle.blockplan.proofs.tag.keep.Tie as tie
+use Rattle.tags.proofs.keep.Statement.{statement}
+use Rattle.tags.proofs.keep.Tie as tie
 
 abbrev Inv-loop : tie.InvT-loop
 Inv-loop out₀ n differ mask i₀ out i =
