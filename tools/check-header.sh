@@ -64,17 +64,8 @@ uint64_t take(void)
 END
 cp "$work/drop.c" "$work/drop.cpp"
 
-# count WHAT COMMAND...: WHAT is said where the command fails.
-count() {
-    what=$1
-    shift
-    if "$@"; then
-        passed=$((passed + 1))
-    else
-        failed=$((failed + 1))
-        echo "  failed: header: $what"
-    fi
-}
+# shellcheck source=tools/count.sh
+. "$root/tools/count.sh"
 
 # compile COMPILER WORDS...: every warning is an error.
 compile() {
@@ -100,17 +91,17 @@ takes() {
 # answers COMPILER WORDS...: for each call.
 answers() {
     while IFS= read -r call; do
-        count "$call dropped without a warning: $*" warns "$@" "-DCALL=$call"
-        count "$call not taken with its answer used: $*" takes "$@" "-DCALL=$call"
+        count "header: $call dropped without a warning: $*" warns "$@" "-DCALL=$call"
+        count "header: $call not taken with its answer used: $*" takes "$@" "-DCALL=$call"
     done < "$work/calls"
 }
 
 for standard in c99 c11 c17; do
-    count "$standard" runs "${CC:-cc}" "-std=$standard" -Wstrict-prototypes "$work/answer.c"
+    count "header: $standard" runs "${CC:-cc}" "-std=$standard" -Wstrict-prototypes "$work/answer.c"
 done
 for standard in c++98 c++11 c++17; do
     # The types of 64 bits are long long on some machines, which C++98 does not have.
-    count "$standard" runs "${CXX:-c++}" "-std=$standard" "$work/answer.cpp"
+    count "header: $standard" runs "${CXX:-c++}" "-std=$standard" "$work/answer.cpp"
 done
 answers "${CC:-cc}" -std=c99 "$work/drop.c"
 answers "${CXX:-c++}" -std=c++98 "$work/drop.cpp"

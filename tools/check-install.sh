@@ -29,17 +29,8 @@ if [ ! -f "$folder/libcalmbaize.a" ]; then
     exit 2
 fi
 
-# count WHAT COMMAND...: WHAT is said where the command fails, with the folder of libraries.
-count() {
-    what=$1
-    shift
-    if "$@"; then
-        passed=$((passed + 1))
-    else
-        failed=$((failed + 1))
-        echo "  failed: install: $what, libraries in $libdir"
-    fi
-}
+# shellcheck source=tools/count.sh
+. "$root/tools/count.sh"
 
 make_to() {
     make --no-print-directory -C "$root" "$@" DIST="$folder" TOOL="$work/tool" PREFIX="$prefix" \
@@ -74,12 +65,13 @@ nothing_left() {
 check() {
     libdir=$1
     shift
-    count "make install" make_to install "$@"
-    count "a C program over it" program_runs
-    count "the version that pkg-config says" version_is_right
-    count "the tool" tool_runs
-    count "make uninstall" make_to uninstall "$@"
-    count "files left behind" nothing_left
+    where="install, libraries in $libdir"
+    count "$where: make install" make_to install "$@"
+    count "$where: a C program over it" program_runs
+    count "$where: the version that pkg-config says" version_is_right
+    count "$where: the tool" tool_runs
+    count "$where: make uninstall" make_to uninstall "$@"
+    count "$where: files left behind" nothing_left
 }
 
 printf '#!/bin/sh\necho the tool\n' > "$work/tool"
