@@ -6,13 +6,13 @@ use Prim.Native.Nat.{ℕ, _/_, _%_, _^_, _≤_, _<_}
 use lib.Arith.{digits-div, digits-mod}
 use borrow.Author.Tests.{ltb-false}
 use lib.Dec.{ltb}
-use Rattle.answers.specs.Answers.{numberOf, valueOf, codeOf, lineAt, line, room, checked}
+use Rattle.answers.specs.Answers.{numberOf, valueOf, codeOf, lineAt, line, room, checked, judged}
 use Rattle.answers.specs.declared.Ground.{Ground}
 use Rattle.answers.specs.declared.Ground.the-variants.{OutputLength}
 use Rattle.answers.specs.declared.Check.{Check}
 use Rattle.answers.specs.declared.Check.the-variants.{Clear, Fails}
 use Rattle.answers.specs.declared.Answer.{Answer}
-use Rattle.answers.specs.declared.Answer.the-variants.{Refused}
+use Rattle.answers.specs.declared.Answer.the-variants.{Done, Refused}
 
 -- ---- checks that are clear
 
@@ -73,6 +73,26 @@ pub allowed : {c found : Check} (out : List ℕ) (r : Answer × List ℕ) → fo
 unfolding checked
 allowed out r e q = sym (ap (λ (x : Check). checked x out r) (sym e ∙ q))
 
+-- whether an answer is no refusal
+abbrev isDone : Answer → Bool
+isDone (Done value) = true
+isDone (Refused ground place) = false
+
+-- a refusal as what the checks found
+abbrev asCheck : Answer → Check
+asCheck (Done value) = Clear
+asCheck (Refused ground place) = Fails ground place
+
+pub judged-done : (c : Check) (v w : ℕ) → judged c (Done v) ≡ Done w → (c ≡ Clear) × (v ≡ w)
+unfolding judged
+judged-done Clear v w e = (refl, ap valueOf e)
+judged-done (Fails g at) v w e = absurd (true≢false (sym (ap isDone e)))
+
+pub judged-refused : (c : Check) (v : ℕ) (g : Ground) (at : ℕ) → judged c (Done v) ≡ Refused g at → c ≡ Fails g at
+unfolding judged
+judged-refused Clear v g at e = absurd (true≢false (ap isDone e))
+judged-refused (Fails h k) v g at e = ap asCheck e
+
 -- ---- a bound on the answer
 
 -- the place that checks find
@@ -80,9 +100,9 @@ abbrev pub placeOf : Check → ℕ
 placeOf Clear = 0
 placeOf (Fails ground place) = place
 
-pub lineAt-lt : (n : ℕ) (t : Bool) (g : Ground) (at : ℕ) (next : Check) → at < n → (t ≡ false → placeOf next < n) → placeOf (lineAt t g at next) < n
+pub lineAt-lt : (n : ℕ) (t : Bool) (g : Ground) (at : ℕ) (next : Check) → (t ≡ true → at < n) → (t ≡ false → placeOf next < n) → placeOf (lineAt t g at next) < n
 unfolding lineAt
-lineAt-lt n true g at next h k = h
+lineAt-lt n true g at next h k = h refl
 lineAt-lt n false g at next h k = k refl
 
 pub checked-lt : (n : ℕ) (c : Check) (out : List ℕ) (r : Answer × List ℕ) → placeOf c < n → (c ≡ Clear → valueOf (r .0) < n)
@@ -90,6 +110,11 @@ pub checked-lt : (n : ℕ) (c : Check) (out : List ℕ) (r : Answer × List ℕ)
 unfolding checked
 checked-lt n Clear out r h k = k refl
 checked-lt n (Fails g at) out r h k = h
+
+pub judged-lt : (n : ℕ) (c : Check) (a : Answer) → placeOf c < n → (c ≡ Clear → valueOf a < n) → valueOf (judged c a) < n
+unfolding judged
+judged-lt n Clear a h k = k refl
+judged-lt n (Fails g at) a h k = h
 
 -- an answer's number and value, taken apart again
 pub taken-apart : (a : Answer) → valueOf a < 2 ^ 32 → (codeOf a / 2 ^ 32 ≡ numberOf a) × (codeOf a % 2 ^ 32 ≡ valueOf a)

@@ -4,7 +4,7 @@ use mathlib.Core.List.{List}
 use Prim.Native.Nat.{ℕ, _+_, _*_, _^_}
 use lib.Dec.{ltb}
 use Rattle.answers.specs.declared.Ground.{Ground}
-use Rattle.answers.specs.declared.Ground.the-variants.{Mode, Rounds, KeyLength, NonceLength, HeaderLength, InputLength, OutputLength, TagMissing, TagDiffers, StartLength, NetCount, StepByte, ListLength}
+use Rattle.answers.specs.declared.Ground.the-variants.{Mode, Rounds, KeyLength, NonceLength, HeaderLength, InputLength, OutputLength, TagMissing, TagDiffers, StartLength, NetCount, StepByte, ListLength, StoreForm, StoreFull, SaleNumbers}
 use Rattle.answers.specs.declared.Check.{Check}
 use Rattle.answers.specs.declared.Check.the-variants.{Clear, Fails}
 use Rattle.answers.specs.declared.Answer.{Answer}
@@ -27,13 +27,16 @@ groundNumber StartLength = 10
 groundNumber NetCount = 11
 groundNumber StepByte = 12
 groundNumber ListLength = 13
+groundNumber StoreForm = 14
+groundNumber StoreFull = 15
+groundNumber SaleNumbers = 16
 
 -- a refusal returns its number; 0 is success
 abbrev pub numberOf : Answer → ℕ
 numberOf (Done value) = 0
 numberOf (Refused ground place) = groundNumber ground
 
--- success returns a value, as the bytes written; a refusal a place
+-- success returns a value: the bytes written, or what the call says; a refusal a place
 abbrev pub valueOf : Answer → ℕ
 valueOf (Done value) = value
 valueOf (Refused ground place) = place
@@ -65,3 +68,8 @@ room needed lent next = line (ltb lent needed) OutputLength next
 unfoldable pub checked : Check → List ℕ → Answer × List ℕ → Answer × List ℕ
 checked (Fails ground place) out result = (Refused ground place, out)
 checked Clear out result = result
+
+-- a call that writes nothing: what its checks find, or the answer given
+unfoldable pub judged : Check → Answer → Answer
+judged (Fails ground place) answer = Refused ground place
+judged Clear answer = answer

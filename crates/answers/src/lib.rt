@@ -32,6 +32,12 @@ pub enum Ground {
     StepByte,
     // The list has over 4,096 steps.
     ListLength,
+    // The store's length, an index, a kind or the chains are not as said.
+    StoreForm,
+    // The store has no free cell.
+    StoreFull,
+    // Machine and sale number are present where they must not be, or absent.
+    SaleNumbers,
 }
 
 // What a call's checks find: nothing, or the first ground that holds and its place.
@@ -64,6 +70,9 @@ fn ground_number(g: Ground) -> u32
         Ground::NetCount => 11,
         Ground::StepByte => 12,
         Ground::ListLength => 13,
+        Ground::StoreForm => 14,
+        Ground::StoreFull => 15,
+        Ground::SaleNumbers => 16,
     }
 }
 

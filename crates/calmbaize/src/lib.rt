@@ -1,9 +1,13 @@
 // What C and Rust call. Each call's answer is one number: the refusal's number times 2^32, plus the
-// place; on success the bytes written.
+// place; on success the call's value: the bytes written, a cell, an amount or an offset.
+use answers::Answer;
+use sales::Sale;
 ghost use mathlib.Core.Path.{_≡_};
-ghost use Rattle.answers.specs.Answers.{coded};
+ghost use Rattle.answers.specs.Answers.{codeOf, coded};
 ghost use Rattle.sealing.specs.Sealing.{sealCall, openCall};
 ghost use Rattle.walking.specs.Walking.{walkCall, jumpCall};
+ghost use Rattle.store.specs.Store.{formatCall, takeCall, cancelCall, totalCall, readCall};
+ghost use Rattle.calmbaize.specs.ForC.{saleOf, totalled};
 
 // Seals a message: mode 1 is OPP, 2 is MRO; the output receives the ciphertext and then the tag.
 #[no_mangle]
@@ -57,4 +61,75 @@ pub extern "C" fn calmbaize_jump(
     ensures { λ r. ⌜ (r, now (output .exit)) ≡ coded (jumpCall (now (start .entry)) alpha beta gamma (now (output .entry))) ⌝ }
 {
     answers::code(walking::jump(start, alpha, beta, gamma, output))
+}
+
+// Makes every cell of a store free.
+#[no_mangle]
+pub extern "C" fn calmbaize_store_format(store: &mut [u8]) -> u64
+    ensures { λ r. ⌜ (r, now (store .exit)) ≡ coded (formatCall (now (store .entry))) ⌝ }
+{
+    answers::code(store::format(store))
+}
+
+// Stores a sale; answers its cell.
+#[no_mangle]
+pub extern "C" fn calmbaize_store_take(
+    key: &[u8],
+    store: &mut [u8],
+    machine: u32,
+    sale: u32,
+    nonce_tail: &[u8; 8],
+    amount: u32,
+    column: u16,
+    means: u8,
+    clock: &[u8; 6],
+) -> u64
+    ensures { λ r. ⌜ (r, now (store .exit)) ≡ coded (takeCall (now (key .entry)) (saleOf machine sale (now («nonce_tail» .entry)) amount column means (now (clock .entry))) (now (store .entry))) ⌝ }
+{
+    let of = Sale {
+        machine,
+        sale,
+        tail: *nonce_tail,
+        amount,
+        column,
+        means,
+        clock: *clock,
+    };
+    answers::code(store::take(key, store, of))
+}
+
+// Takes a sale out of a store; answers the amount that was deducted.
+#[no_mangle]
+pub extern "C" fn calmbaize_store_cancel(
+    key: &[u8],
+    store: &mut [u8],
+    machine: u32,
+    sale: u32,
+) -> u64
+    ensures { λ r. ⌜ (r, now (store .exit)) ≡ coded (cancelCall (now (key .entry)) machine sale (now (store .entry))) ⌝ }
+{
+    answers::code(store::cancel(key, store, machine, sale))
+}
+
+// The cash of a store, to the last argument, since it may pass 2^32; answers 0.
+#[no_mangle]
+pub extern "C" fn calmbaize_store_total(key: &[u8], store: &[u8], total: &mut u64) -> u64
+    ensures { λ r. ⌜ (r, now (total .exit)) ≡ totalled (totalCall (now (key .entry)) (now (store .entry))) (now (total .entry)) ⌝ }
+{
+    let answer = store::total(key, store);
+    match answer {
+        Answer::Done(sum) => {
+            *total = sum;
+            0
+        }
+        Answer::Refused(ground, place) => answers::code(Answer::Refused(ground, place)),
+    }
+}
+
+// Where in a store the 61 bytes of a sale begin.
+#[no_mangle]
+pub extern "C" fn calmbaize_store_read(store: &[u8], machine: u32, sale: u32) -> u64
+    ensures { λ r. ⌜ r ≡ codeOf (readCall machine sale (now (store .entry))) ⌝ }
+{
+    answers::code(store::read_offset(store, machine, sale))
 }

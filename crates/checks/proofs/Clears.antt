@@ -88,24 +88,24 @@ module _ (mode rounds key nonce header : ℕ) where
   settings-place : (n : ℕ) (next : Check) → 0 < n → placeOf next < n → placeOf (settings mode rounds key nonce header next) < n
   unfolding settings line
   settings-place n next z h =
-      lineAt-lt n (not (isMode mode)) Mode 0 _ z
-      (λ a. lineAt-lt n (not (isRounds rounds)) Rounds 0 _ z
-      (λ b. lineAt-lt n (not (eqb key 32)) KeyLength 0 _ z
-      (λ c. lineAt-lt n (not (eqb nonce 16)) NonceLength 0 _ z
-      (λ d. lineAt-lt n (ltb 4096 header) HeaderLength 0 next z (λ e. h)))))
+      lineAt-lt n (not (isMode mode)) Mode 0 _ (λ t. z)
+      (λ a. lineAt-lt n (not (isRounds rounds)) Rounds 0 _ (λ t. z)
+      (λ b. lineAt-lt n (not (eqb key 32)) KeyLength 0 _ (λ t. z)
+      (λ c. lineAt-lt n (not (eqb nonce 16)) NonceLength 0 _ (λ t. z)
+      (λ d. lineAt-lt n (ltb 4096 header) HeaderLength 0 next (λ t. z) (λ e. h)))))
 
   pub seal-place : (message out n : ℕ) → 0 < n → placeOf (sealChecks mode rounds key nonce header message out) < n
   unfolding sealChecks sealInputs room line
   seal-place message out n z =
       settings-place n _ z
-      (lineAt-lt n (ltb 65536 message) InputLength 0 _ z (λ a. lineAt-lt n (ltb out (message + 32)) OutputLength 0 Clear z (λ b. z)))
+      (lineAt-lt n (ltb 65536 message) InputLength 0 _ (λ t. z) (λ a. lineAt-lt n (ltb out (message + 32)) OutputLength 0 Clear (λ t. z) (λ b. z)))
 
   pub open-place : (parcel out n : ℕ) → 0 < n → placeOf (openChecks mode rounds key nonce header parcel out) < n
   unfolding openChecks openInputs room line
   open-place parcel out n z =
       settings-place n _ z
-      (lineAt-lt n (ltb parcel 32) TagMissing 0 _ z
-      (λ a. lineAt-lt n (ltb 65568 parcel) InputLength 0 _ z (λ b. lineAt-lt n (ltb out (parcel - 32)) OutputLength 0 Clear z (λ c. z))))
+      (lineAt-lt n (ltb parcel 32) TagMissing 0 _ (λ t. z)
+      (λ a. lineAt-lt n (ltb 65568 parcel) InputLength 0 _ (λ t. z) (λ b. lineAt-lt n (ltb out (parcel - 32)) OutputLength 0 Clear (λ t. z) (λ c. z))))
 
   -- ---- a message and a parcel 32 bytes longer pass the same checks
 

@@ -5,7 +5,7 @@ use Prim.Native.Nat.{ℕ, suc, _<_}
 use lib.IntN.{pos, negsuc}
 use lib.ListN.{length, getD, set}
 use Rattle.words.specs.Sequence.{tab, zeros}
-use Rattle.words.specs.Block.{bytesOf, zeroBlock}
+use Rattle.words.specs.Block.{lowBytes, bytesOf, zeroBlock}
 use Rattle.permutation.specs.Permutation.{gOf, round}
 use Rattle.masks.specs.Steps.{alpha, beta, gamma}
 use Rattle.back_steps.specs.BackSteps.{backAlpha}
@@ -18,6 +18,11 @@ use Rattle.answers.specs.declared.Check.{Check}
 use Rattle.answers.specs.declared.Check.the-variants.{Clear, Fails}
 use Rattle.checks.specs.Checks.{sealChecks, openChecks}
 use Rattle.walking.specs.Walking.{walkChecks, jumpChecks}
+use Rattle.cells.specs.Cells.{free}
+use Rattle.cells.specs.Changes.{fresh, filled, emptied}
+use Rattle.sales.specs.declared.Sale.{Sale}
+use Rattle.sales.specs.Sale.{cashOf}
+use Rattle.store.specs.Store.{formatChecks, takeChecks, readChecks}
 
 -- a case: what the definitions give, and what the sheet says
 pub record Row : Type 0 where
@@ -47,7 +52,14 @@ abbrev pub found : Check → List ℕ
 found Clear = 0 ∷ 0 ∷ []
 found (Fails ground place) = groundNumber ground ∷ place ∷ []
 
--- the lines P1 to P11, maskwalk's example with "g", and the limits that the checks keep
+-- a sale of 150 cents, and 61 bytes that begin with a machine and a sale number
+unfoldable pub paid : ℕ → Sale
+paid means = record { machine = 7; sale = 1; tail = zeros 8; amount = 150; column = 4; means = means; clock = zeros 6 }
+
+unfoldable pub taken : ℕ → ℕ → List ℕ
+taken machine sale = lowBytes 4 machine ++ (lowBytes 4 sale ++ zeros 53)
+
+-- the lines P1 to P11, maskwalk's example with "g", and the limits that the checks keep; then rows of the sale store (document 02, card 1)
 unfoldable pub table : List Row
 table =
     record { got = g 1 0 0 0; want = 0x101 ∷ 0x0202000200020200 ∷ 0x0101000100010000 ∷ 0x0101000000010000 ∷ [] }  -- P1
@@ -76,6 +88,19 @@ table =
     ∷ record { got = found (jumpChecks 128 (pos 65536) (negsuc 65535) (pos 0) 128); want = 0 ∷ 0 ∷ [] }  -- net counts 65,536 and -65,536
     ∷ record { got = found (jumpChecks 128 (pos 0) (pos 65537) (pos 0) 128); want = 11 ∷ 0 ∷ [] }
     ∷ record { got = found (walkChecks 128 (1 ∷ 7 ∷ 0 ∷ []) 128); want = 12 ∷ 1 ∷ [] }  -- steps 1, 7, 0
+    ∷ record { got = fresh 2; want = 0 ∷ 0 ∷ 1 ∷ 0 ∷ zeros 124 }  -- a formatted store: two cells, and three of them chained
+    ∷ record { got = free (fresh 3); want = 1 ∷ 2 ∷ [] }
+    ∷ record { got = found (formatChecks (zeros 64)); want = 14 ∷ 0 ∷ [] }  -- one cell, two, and a byte more
+    ∷ record { got = found (formatChecks (zeros 128)); want = 0 ∷ 0 ∷ [] }
+    ∷ record { got = found (formatChecks (zeros 129)); want = 14 ∷ 0 ∷ [] }
+    ∷ record { got = found (takeChecks (zeros 32) (paid 1) (fresh 2)); want = 0 ∷ 0 ∷ [] }  -- a take passes, with a key of 32 bytes
+    ∷ record { got = found (takeChecks (zeros 31) (paid 1) (fresh 2)); want = 3 ∷ 0 ∷ [] }
+    ∷ record { got = found (takeChecks (zeros 32) (paid 1) (filled (taken 7 1) (fresh 2))); want = 16 ∷ 0 ∷ [] }  -- the same numbers again: 16 before 15
+    ∷ record { got = found (takeChecks (zeros 32) (paid 1) (filled (taken 7 2) (fresh 2))); want = 15 ∷ 0 ∷ [] }
+    ∷ record { got = found (readChecks 7 1 (fresh 2)); want = 16 ∷ 0 ∷ [] }  -- absent, and there
+    ∷ record { got = found (readChecks 7 1 (filled (taken 7 1) (fresh 2))); want = 0 ∷ 0 ∷ [] }
+    ∷ record { got = emptied 0 1 (filled (taken 7 1) (fresh 2)); want = fresh 2 }  -- taken and cancelled: as it was
+    ∷ record { got = cashOf (paid 1) ∷ cashOf (paid 2) ∷ []; want = 150 ∷ 0 ∷ [] }  -- means 1 counts, means 2 does not
     ∷ []
 
 -- row i of the table

@@ -46,17 +46,17 @@ pub walk-small : (start steps out : List ℕ) → valueOf (walkCall start steps 
 unfolding walkCall walkChecks room line
 walk-small start steps out =
     checked-lt (2 ^ 32) _ out _
-    (lineAt-lt (2 ^ 32) (not (eqb (length start) 128)) StartLength 0 _ (lit< tt)
-    (λ a. lineAt-lt (2 ^ 32) (ltb 4096 (length steps)) ListLength 0 _ (lit< tt)
-    (λ b. lineAt-lt (2 ^ 32) (ltb (firstBad steps) (length steps)) StepByte (firstBad steps) _ (omega (arith, bad-le steps, ltb-false 4096 (length steps) b))
-    (λ c. lineAt-lt (2 ^ 32) (ltb (length out) 128) OutputLength 0 Clear (lit< tt) (λ d. lit< tt)))))
+    (lineAt-lt (2 ^ 32) (not (eqb (length start) 128)) StartLength 0 _ (λ t. lit< tt)
+    (λ a. lineAt-lt (2 ^ 32) (ltb 4096 (length steps)) ListLength 0 _ (λ t. lit< tt)
+    (λ b. lineAt-lt (2 ^ 32) (ltb (firstBad steps) (length steps)) StepByte (firstBad steps) _ (λ t. omega (arith, bad-le steps, ltb-false 4096 (length steps) b))
+    (λ c. lineAt-lt (2 ^ 32) (ltb (length out) 128) OutputLength 0 Clear (λ t. lit< tt) (λ d. lit< tt)))))
     (λ e. lit< tt)
 
 pub jump-small : (start : List ℕ) (i j k : ℤ) (out : List ℕ) → valueOf (jumpCall start i j k out .0) < 2 ^ 32
 unfolding jumpCall jumpChecks room line
 jump-small start i j k out =
     checked-lt (2 ^ 32) _ out _
-    (lineAt-lt (2 ^ 32) (not (eqb (length start) 128)) StartLength 0 _ (lit< tt)
-    (λ a. lineAt-lt (2 ^ 32) (not (inRange i && (inRange j && inRange k))) NetCount 0 _ (lit< tt)
-    (λ b. lineAt-lt (2 ^ 32) (ltb (length out) 128) OutputLength 0 Clear (lit< tt) (λ c. lit< tt))))
+    (lineAt-lt (2 ^ 32) (not (eqb (length start) 128)) StartLength 0 _ (λ t. lit< tt)
+    (λ a. lineAt-lt (2 ^ 32) (not (inRange i && (inRange j && inRange k))) NetCount 0 _ (λ t. lit< tt)
+    (λ b. lineAt-lt (2 ^ 32) (ltb (length out) 128) OutputLength 0 Clear (λ t. lit< tt) (λ c. lit< tt))))
     (λ e. lit< tt)

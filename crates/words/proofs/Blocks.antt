@@ -97,7 +97,7 @@ unfolding lowBytes
 length-lowBytes zero w = refl
 length-lowBytes (suc k) w = ap suc (length-lowBytes k (w / 256))
 
-lowBytes-byte : (k w i : ℕ) → getD (lowBytes k w) i 0 < 256
+pub lowBytes-byte : (k w i : ℕ) → getD (lowBytes k w) i 0 < 256
 unfolding lowBytes
 lowBytes-byte zero w i = lit< tt
 lowBytes-byte (suc k) w zero = mod-lt w (lit< tt)

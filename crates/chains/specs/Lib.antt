@@ -1,0 +1,4 @@
+pub mod Faults
+pub mod Marks
+pub mod Found
+pub mod Nexts

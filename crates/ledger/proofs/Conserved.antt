@@ -1,0 +1,101 @@
+-- The conserved total, over whole histories of calls. Assumes nothing.
+use mathlib.Core.Bool.{true}
+use mathlib.Core.List.{List, [], _∷_}
+use mathlib.Core.Path.{_≡_, refl, ap, _∙_}
+use Prim.Native.Nat.{ℕ, _+_, _-_, _≤_}
+use native.Mathlib.Omega.{arith}
+use lib.ListN.{length}
+use Rattle.words.specs.Block.{Bytes}
+use Rattle.answers.specs.Answers.{line, lineAt, checked}
+use Rattle.answers.specs.declared.Answer.{Answer}
+use Rattle.answers.specs.declared.Answer.the-variants.{Done, Refused}
+use Rattle.cells.specs.Cells.{firstFree, lengthFits}
+use Rattle.sales.specs.declared.Sale.{Sale}
+use Rattle.entries.specs.Entries.{salesIn}
+use Rattle.store.specs.Store.{formatChecks, formatCall, totalCall}
+use Rattle.ledger.specs.Book.{Call, Book, found, coins, opening, bookTake, bookCancel, entered, amountBack, AllFit, NoFormat}
+use Rattle.ledger.specs.Book.Call.{format, take, cancel, total, read}
+use Rattle.ledger.specs.Conserved.{called, run, kept, Agrees, Conserved}
+use Rattle.ledger.proofs.Sound.{total-sound, total-accepts, take-answers, cancel-answers}
+use Rattle.ledger.proofs.Kept.{Kept, kept-opening, kept-format, kept-run}
+
+-- ---- store and ledger agree
+
+agrees : (key s : List ℕ) (b : Book) → length key ≡ 32 → Kept key s b → Agrees key s b
+agrees key s b k i = record {
+  recorded = i .stands;
+  figure = total-sound key s k (i .sound) ∙ ap Done (ap coins (i .stands) ∙ omega (arith, i .balanced));
+  most = omega (arith, i .balanced);
+  gives-back = λ machine sale. cancel-answers key machine sale s (i .sound) k ∙ ap (λ (l : List Sale). amountBack (found machine sale l)) (i .stands);
+  takes = λ x e q. (firstFree s, take-answers key x s (i .sound) k (ap (found (x .machine) (x .sale)) (i .stands) ∙ e) (rw (i .stands) q));
+}
+
+-- a store of a right length, formatted
+formatted : (key s : List ℕ) → lengthFits s ≡ true → Kept key (formatCall s .1) (opening 0 [])
+unfolding formatCall formatChecks line lineAt checked
+formatted key s e = rw e (kept-format key s e)
+
+-- ---- the first figure
+
+-- no call but format changes it
+stays : (call : Call) (calls : List Call) → NoFormat (call ∷ calls) → (a : Answer) (b : Book) → (entered call a b .first ≡ b .first) × NoFormat calls
+unfolding entered bookTake bookCancel
+stays format calls w a b = absurd w
+stays (take x) calls w (Done v) b = (refl, w)
+stays (take x) calls w (Refused g p) b = (refl, w)
+stays (cancel machine sale) calls w (Done v) b = (refl, w)
+stays (cancel machine sale) calls w (Refused g p) b = (refl, w)
+stays total calls w (Done v) b = (refl, w)
+stays total calls w (Refused g p) b = (refl, w)
+stays (read machine sale) calls w (Done v) b = (refl, w)
+stays (read machine sale) calls w (Refused g p) b = (refl, w)
+
+until : (key s : List ℕ) (b : Book) (calls : List Call) → NoFormat calls → kept key calls s b .first ≡ b .first
+unfolding kept
+until key s b [] w = refl
+until key s b (call ∷ calls) w =
+    let h = stays call calls w (called key call s .0) b in
+    until key (called key call s .1) (entered call (called key call s .0) b) calls (h .1) ∙ h .0
+
+-- and format makes it 0
+zero-stays : (call : Call) (a : Answer) (b : Book) → b .first ≡ 0 → entered call a b .first ≡ 0
+unfolding entered opening bookTake bookCancel
+zero-stays call (Refused g p) b e = e
+zero-stays format (Done v) b e = refl
+zero-stays (take x) (Done v) b e = e
+zero-stays (cancel machine sale) (Done v) b e = e
+zero-stays total (Done v) b e = e
+zero-stays (read machine sale) (Done v) b e = e
+
+zero-kept : (key s : List ℕ) (b : Book) (calls : List Call) → b .first ≡ 0 → kept key calls s b .first ≡ 0
+unfolding kept
+zero-kept key s b [] e = e
+zero-kept key s b (call ∷ calls) e =
+    zero-kept key (called key call s .1) (entered call (called key call s .0) b) calls (zero-stays call (called key call s .0) b e)
+
+-- ---- the promise
+
+module _ (key : List ℕ) (calls : List Call) (k : length key ≡ 32) (bytes : Bytes key) (w : AllFit calls) where
+  accepted : (s : List ℕ) (first : ℕ) → totalCall key s ≡ Done first → Agrees key (run key calls s) (kept key calls s (opening first (salesIn key s)))
+  accepted s first e =
+      let h = total-accepts key s first e in
+      agrees key (run key calls s) _ k (kept-run key bytes calls w s (opening first (salesIn key s)) (kept-opening key s first (salesIn key s) (h .0) refl (h .1)))
+
+  after-format : (s : List ℕ) → lengthFits s ≡ true → Agrees key (run key calls (formatCall s .1)) (kept key calls (formatCall s .1) (opening 0 []))
+  after-format s e = agrees key (run key calls (formatCall s .1)) _ k (kept-run key bytes calls w (formatCall s .1) (opening 0 []) (formatted key s e))
+
+-- the figure of a ledger whose first figure is known
+figures : (key s : List ℕ) (b : Book) (first : ℕ) → b .first ≡ first → Agrees key s b
+    → (totalCall key s ≡ Done ((first + coins (b .taken)) - coins (b .cancelled))) × (coins (b .cancelled) ≤ first + coins (b .taken))
+figures key s b first e a = rw (← e) (a .figure, a .most)
+
+pub conserved : Conserved
+conserved = record {
+  from-accepted = λ key s first calls k bytes w e. accepted key calls k bytes w s first e;
+  from-format = λ key s calls k bytes w e. after-format key calls k bytes w s e;
+  since-format = λ key s calls k bytes w e.
+      let h = figures key _ _ 0 (zero-kept key (formatCall s .1) (opening 0 []) calls (unfold opening in refl)) (after-format key calls k bytes w s e) in
+      (h .0 ∙ ap Done (omega arith), omega (arith, h .1));
+  until-format = λ key s first calls k bytes w n e.
+      figures key _ _ first (until key s (opening first (salesIn key s)) calls n ∙ (unfold opening in refl)) (accepted key calls k bytes w s first e);
+}

@@ -1,0 +1,4 @@
+mod Sales
+mod Sound
+mod Kept
+pub mod Conserved

@@ -1,0 +1,226 @@
+-- Stores whose form is as said and whose sales all open: total accepts these, and format, take and cancel leave such. Assumes nothing.
+use mathlib.Core.Bool.{Bool, true, false, cond, not}
+use mathlib.Core.List.{List, [], _∷_, map}
+use mathlib.Core.Logic.{inl, inr}
+use mathlib.Core.Path.{_≡_, refl, sym, ap, ap₂, _∙_, subst}
+use Prim.Native.Nat.{ℕ, _+_, _<_}
+use native.Mathlib.Omega.{arith}
+use lib.Dec.{eqb}
+use lib.ListN.{length, length-map}
+use borrow.Author.Tests.{eq-eqb, ne-eqb, eqb-false}
+use Rattle.words.specs.Block.{Bytes}
+use Rattle.answers.specs.Answers.{line, lineAt, checked, judged}
+use Rattle.answers.specs.declared.Ground.the-variants.{KeyLength, StoreForm, SaleNumbers, TagDiffers, StoreFull}
+use Rattle.answers.specs.declared.Check.{Check}
+use Rattle.answers.specs.declared.Check.the-variants.{Clear}
+use Rattle.answers.specs.declared.Answer.the-variants.{Done}
+use Rattle.answers.proofs.Values.{line-clear, lineAt-clear, judged-done}
+use Rattle.cells.specs.Chains.{count, some, first}
+use Rattle.cells.specs.Cells.{cells, firstFree, sales, free, lengthFits, formed, named, present, cellNamed, cellBefore}
+use Rattle.cells.specs.Changes.{fresh, filled, emptied}
+use Rattle.cells.proofs.Chains.{In, others, first-in, others-in}
+use Rattle.cells.proofs.Form.{Form, form-of, of-form, size-of, sales-are, long-of, in-cases, none-in, in-none}
+use Rattle.cells.proofs.Filled.{filled-form, filled-body, filled-others}
+use Rattle.cells.proofs.Emptied.{emptied-form, emptied-others}
+use Rattle.cells.proofs.Fresh.{fresh-form}
+use Rattle.sales.specs.declared.Sale.{Sale}
+use Rattle.sales.specs.Sale.{Fits, bodyFor, opens, saleIn}
+use Rattle.sales.proofs.Bodies.{body-long, body-opens, body-sale}
+use Rattle.entries.specs.Entries.{opensAt, shutAt, saleAt, salesIn, cash}
+use Rattle.store.specs.Store.{formChecks, keyChecks, formatChecks, takeChecks, cancelChecks, totalChecks, takeCall, cancelCall, totalCall}
+use Rattle.ledger.specs.Book.{isNamed, found, without, coins, amountBack}
+use Rattle.ledger.proofs.Sales.{map-ext, without-map, found-map, cash-coins}
+
+-- ---- checks
+
+not-false : (t : Bool) → not t ≡ false → t ≡ true
+not-false true e = refl
+not-false false e = sym e
+
+-- key and form are right: the next checks decide
+keys-next : (key s : List ℕ) (next : Check) → length key ≡ 32 → formed s ≡ true → keyChecks key s next ≡ next
+unfolding keyChecks formChecks line lineAt
+keys-next key s next k f = rw (eq-eqb (length key) 32 k, f)
+
+keys-clear : (key s : List ℕ) (next : Check) → keyChecks key s next ≡ Clear → (formed s ≡ true) × (next ≡ Clear)
+unfolding keyChecks formChecks
+keys-clear key s next e =
+    let a = line-clear _ KeyLength _ e in
+    let b = line-clear (not (formed s)) StoreForm next (a .1) in
+    (not-false (formed s) (b .0), b .1)
+
+-- format's checks are clear: the length is as said
+pub format-clear : (s : List ℕ) → formatChecks s ≡ Clear → lengthFits s ≡ true
+unfolding formatChecks
+format-clear s e = not-false (lengthFits s) (line-clear (not (lengthFits s)) StoreForm Clear e .0)
+
+-- take's checks are clear: some cell is free
+pub take-clear : (key : List ℕ) (x : Sale) (s : List ℕ) → takeChecks key x s ≡ Clear → firstFree s ≡ 0 → ⊥
+unfolding takeChecks
+take-clear key x s e =
+    let a = keys-clear key s _ e in
+    let b = line-clear _ SaleNumbers _ (a .1) in
+    eqb-false (firstFree s) 0 (line-clear (eqb (firstFree s) 0) StoreFull Clear (b .1) .0)
+
+-- cancel's checks are clear: the sale is there
+pub cancel-clear : (key : List ℕ) (machine sale : ℕ) (s : List ℕ) → cancelChecks key machine sale s ≡ Clear → present machine sale s ≡ true
+unfolding cancelChecks
+cancel-clear key machine sale s e =
+    let a = keys-clear key s _ e in
+    not-false (present machine sale s) (line-clear _ SaleNumbers _ (a .1) .0)
+
+-- ---- sound stores
+
+-- the form is as said, and every sale opens
+pub record Sound (key s : List ℕ) : Type 0 where
+  pub form : formed s ≡ true
+  pub all-open : (c : ℕ) → In c (sales s) → opensAt key s c ≡ true
+
+module _ (key : List ℕ) where
+  sound-of : (s cs fs : List ℕ) → Form s cs fs → ((c : ℕ) → In c cs → opensAt key s c ≡ true) → Sound key s
+  sound-of s cs fs f o = record { form = of-form s cs fs f; all-open = rw (sales-are s cs fs f) o }
+
+  sales-of : (s cs fs : List ℕ) → Form s cs fs → salesIn key s ≡ map (saleAt key s) cs
+  unfolding salesIn
+  sales-of s cs fs f = ap (map (saleAt key s)) (sales-are s cs fs f)
+
+  -- ---- total
+
+  shut-open : (s : List ℕ) (c : ℕ) → opensAt key s c ≡ true → shutAt key s c ≡ false
+  unfolding shutAt
+  shut-open s c e = rw e
+
+  open-shut : (s : List ℕ) (c : ℕ) → shutAt key s c ≡ false → opensAt key s c ≡ true
+  unfolding shutAt
+  open-shut s c e = not-false (opensAt key s c) e
+
+  -- total gives the coin amounts of the sales of a sound store
+  pub total-sound : (s : List ℕ) → length key ≡ 32 → Sound key s → totalCall key s ≡ Done (coins (salesIn key s))
+  unfolding totalCall totalChecks lineAt judged
+  total-sound s k h =
+      let next = lineAt (some (shutAt key s) (sales s)) TagDiffers (first (shutAt key s) (sales s)) Clear in
+      rw (keys-next key s next k (h .form), in-none (shutAt key s) (sales s) (λ c i. shut-open s c (h .all-open c i)), cash-coins (salesIn key s))
+
+  -- and accepts no other store
+  pub total-accepts : (s : List ℕ) (first : ℕ) → totalCall key s ≡ Done first → Sound key s × (coins (salesIn key s) ≡ first)
+  unfolding totalCall totalChecks
+  total-accepts s first e =
+      let j = judged-done _ (cash (salesIn key s)) first e in
+      let a = keys-clear key s _ (j .0) in
+      let n = lineAt-clear (some (shutAt key s) (sales s)) TagDiffers _ Clear (a .1) .0 in
+      (record { form = a .0; all-open = λ c i. open-shut s c (none-in (shutAt key s) (sales s) n c i) }, sym (cash-coins (salesIn key s)) ∙ j .1)
+
+  -- ---- format
+
+  -- a sound store with no sale
+  pub fresh-sound : (s : List ℕ) → lengthFits s ≡ true → Sound key (fresh (cells s)) × (salesIn key (fresh (cells s)) ≡ [])
+  fresh-sound s e =
+      let l = long-of s e in
+      let f = fresh-form (cells s) (omega (arith, l .least, l .whole)) (omega (arith, l .most, l .whole)) in
+      (sound-of (fresh (cells s)) [] _ f (λ c i. absurd (unfold count in omega arith)), sales-of (fresh (cells s)) [] _ f)
+
+  -- ---- take
+
+  module _ (x : Sale) (b : Bytes key) (w : Fits x) (s : List ℕ) (h : Sound key s) where
+    out : List ℕ
+    out = filled (bodyFor key x) s
+
+    full : length (bodyFor key x) ≡ 61
+    full = body-long key x w
+
+    opens-now : (fs : List ℕ) → Form s (sales s) (firstFree s ∷ fs) → (c : ℕ) → In c (firstFree s ∷ sales s) → opensAt key out c ≡ true
+    unfolding opensAt out
+    opens-now fs f c i = elim (in-cases (firstFree s) c (sales s) i) [
+      | inl z ↦ rw (← z) (ap (opens key) (filled-body (bodyFor key x) s (sales s) fs full f) ∙ body-opens key x b w)
+      | inr j ↦ ap (opens key) (filled-others (bodyFor key x) s (sales s) fs full f c j) ∙ h .all-open c j
+    ]
+
+    sales-now : (fs : List ℕ) → Form s (sales s) (firstFree s ∷ fs) → map (saleAt key out) (firstFree s ∷ sales s) ≡ x ∷ salesIn key s
+    unfolding salesIn saleAt out
+    sales-now fs f =
+        ap₂ (λ (y : Sale) (l : List Sale). y ∷ l) (ap (saleIn key) (filled-body (bodyFor key x) s (sales s) fs full f) ∙ body-sale key x b w)
+        (map-ext (saleAt key out) (saleAt key s) (sales s) (λ c i. ap (saleIn key) (filled-others (bodyFor key x) s (sales s) fs full f c i)))
+
+    -- a sound store with that sale in front
+    pub filled-sound : (firstFree s ≡ 0 → ⊥) → Sound key (filled (bodyFor key x) s) × (salesIn key (filled (bodyFor key x) s) ≡ x ∷ salesIn key s)
+    unfolding out
+    filled-sound n = go (free s) (form-of s (h .form))
+      where
+        go : (fs : List ℕ) → Form s (sales s) fs → Sound key out × (salesIn key out ≡ x ∷ salesIn key s)
+        go [] f = absurd (n (f .spare))
+        go (c ∷ fs) f =
+            let g : Form s (sales s) (firstFree s ∷ fs) = subst (λ (y : ℕ). Form s (sales s) (y ∷ fs)) (sym (f .spare .0)) f in
+            let f′ = filled-form (bodyFor key x) s (sales s) fs full g in
+            (sound-of out (firstFree s ∷ sales s) fs f′ (opens-now fs g), sales-of out (firstFree s ∷ sales s) fs f′ ∙ sales-now fs g)
+
+  -- ---- cancel
+
+  module _ (machine sale : ℕ) (s : List ℕ) (h : Sound key s) where
+    same : (c : ℕ) → named machine sale s c ≡ isNamed machine sale (saleAt key s c)
+    unfolding named isNamed saleAt saleIn
+    same c = refl
+
+    -- a sound store without the first sale of these numbers
+    pub emptied-sound : present machine sale s ≡ true → Sound key (emptied (cellBefore machine sale s) (cellNamed machine sale s) s)
+        × (salesIn key (emptied (cellBefore machine sale s) (cellNamed machine sale s) s) ≡ without machine sale (salesIn key s))
+    unfolding present cellBefore cellNamed
+    emptied-sound y =
+        let test = named machine sale s in
+        let cs = sales s in
+        let out = emptied (cellBefore machine sale s) (cellNamed machine sale s) s in
+        let f = form-of s (h .form) in
+        let f′ = emptied-form test s cs (free s) f y in
+        let kept = emptied-others test s cs (free s) f y in (
+          sound-of out (others test cs) _ f′ (λ c i. unfold opensAt in ap (opens key) (kept c i) ∙ h .all-open c (others-in test cs y c i)),
+          sales-of out (others test cs) _ f′ ∙ map-ext (saleAt key out) (saleAt key s) (others test cs) (λ c i. unfold saleAt in ap (saleIn key) (kept c i))
+              ∙ sym (unfold salesIn in without-map machine sale (saleAt key s) test same cs),
+        )
+
+    named-in : present machine sale s ≡ true → In (cellNamed machine sale s) (sales s)
+    unfolding present cellNamed
+    named-in y = first-in (named machine sale s) (sales s) y
+
+    -- what cancel answers once key and form are right
+    answers-by : (t : Bool) → present machine sale s ≡ t → (r : List ℕ)
+        → checked (line (not (present machine sale s)) SaleNumbers (lineAt (shutAt key s (cellNamed machine sale s)) TagDiffers (cellNamed machine sale s) Clear)) s
+        (Done (saleAt key s (cellNamed machine sale s) .amount), r) .0
+        ≡ amountBack (cond t (saleAt key s (cellNamed machine sale s) ∷ []) [])
+    unfolding line lineAt checked amountBack
+    answers-by true e r = rw (e, shut-open s (cellNamed machine sale s) (h .all-open (cellNamed machine sale s) (named-in e))) refl
+    answers-by false e r = rw e
+
+    sale-found : found machine sale (salesIn key s) ≡ cond (present machine sale s) (saleAt key s (cellNamed machine sale s) ∷ []) []
+    unfolding salesIn present cellNamed
+    sale-found = found-map machine sale (saleAt key s) (named machine sale s) same (sales s)
+
+    -- cancel answers the amount of the sale that stands first under these numbers, or 16
+    pub cancel-answers : length key ≡ 32 → cancelCall key machine sale s .0 ≡ amountBack (found machine sale (salesIn key s))
+    unfolding cancelCall cancelChecks
+    cancel-answers k =
+        let c = cellNamed machine sale s in
+        let next = line (not (present machine sale s)) SaleNumbers (lineAt (shutAt key s c) TagDiffers c Clear) in
+        rw (keys-next key s next k (h .form), sale-found) (answers-by (present machine sale s) refl _)
+
+  -- ---- a take that is done
+
+  none-found : (t : Bool) (y : Sale) → cond t (y ∷ []) [] ≡ [] → t ≡ false
+  none-found true y e = absurd (omega (arith, ap length e))
+  none-found false y e = refl
+
+  -- some cell is free where the sales leave one
+  some-free : (s : List ℕ) → Sound key s → length (salesIn key s) + 1 < cells s → firstFree s ≡ 0 → ⊥
+  unfolding salesIn
+  some-free s h q z = go (free s) (form-of s (h .form))
+    where
+      go : (fs : List ℕ) → Form s (sales s) fs → ⊥
+      go [] f = absurd (omega (arith, size-of s (sales s) [] f, length-map (sales s) (saleAt key s)))
+      go (c ∷ fs) f = absurd (omega (arith, f .spare .0, f .spare .1))
+
+  -- take of numbers under which no sale stands answers that cell
+  pub take-answers : (x : Sale) (s : List ℕ) → Sound key s → length key ≡ 32 → found (x .machine) (x .sale) (salesIn key s) ≡ []
+      → length (salesIn key s) + 1 < cells s → takeCall key x s .0 ≡ Done (firstFree s)
+  unfolding takeCall takeChecks line lineAt checked
+  take-answers x s h k e q =
+      let a = none-found (present (x .machine) (x .sale) s) _ (sym (sale-found (x .machine) (x .sale) s h) ∙ e) in
+      let next = line (present (x .machine) (x .sale) s) SaleNumbers (line (eqb (firstFree s) 0) StoreFull Clear) in
+      rw (keys-next key s next k (h .form), a, ne-eqb (firstFree s) 0 (some-free s h q))

@@ -1,0 +1,66 @@
+-- The conserved total, over whole histories of calls (document 02, card 1: "From the last format on, with one key and these calls only, the cash total equals coin amounts taken less coin amounts cancelled"). Assumes nothing.
+use mathlib.Core.Bool.{true}
+use mathlib.Core.List.{List, [], _∷_}
+use mathlib.Core.Path.{_≡_}
+use Prim.Native.Nat.{ℕ, _+_, _-_, _≤_, _<_}
+use lib.ListN.{length}
+use Rattle.words.specs.Block.{Bytes}
+use Rattle.answers.specs.declared.Answer.{Answer}
+use Rattle.answers.specs.declared.Answer.the-variants.{Done}
+use Rattle.cells.specs.Cells.{cells, lengthFits}
+use Rattle.sales.specs.declared.Sale.{Sale}
+use Rattle.entries.specs.Entries.{salesIn}
+use Rattle.store.specs.Store.{formatCall, takeCall, cancelCall, totalCall, readCall}
+use Rattle.ledger.specs.Book.{Call, Book, found, coins, opening, entered, amountBack, AllFit, NoFormat}
+use Rattle.ledger.specs.Book.Call.{format, take, cancel, total, read}
+
+module _ (key : List ℕ) where
+  -- what a call answers and leaves in the store; total and read leave it as it is
+  unfoldable pub called : Call → List ℕ → Answer × List ℕ
+  called format s = formatCall s
+  called (take x) s = takeCall key x s
+  called (cancel machine sale) s = cancelCall key machine sale s
+  called total s = (totalCall key s, s)
+  called (read machine sale) s = (readCall machine sale s, s)
+
+  -- the store after a history of calls
+  unfoldable pub run : List Call → List ℕ → List ℕ
+  run [] s = s
+  run (call ∷ calls) s = run calls (called call s .1)
+
+  -- the ledger after them, each entered with its own answer
+  unfoldable pub kept : List Call → List ℕ → Book → Book
+  kept [] s b = b
+  kept (call ∷ calls) s b = kept calls (called call s .1) (entered call (called call s .0) b)
+
+  -- store and ledger agree
+  pub record Agrees (s : List ℕ) (b : Book) : Type 0 where
+    -- the store holds the sales that stand in the ledger, with every field, and no others, in that order
+    pub recorded : salesIn key s ≡ b .standing
+    -- total is not refused, and gives the first figure plus the coin amounts taken, less the coin amounts cancelled
+    pub figure : totalCall key s ≡ Done ((b .first + coins (b .taken)) - coins (b .cancelled))
+    -- of which there are no more
+    pub most : coins (b .cancelled) ≤ b .first + coins (b .taken)
+    -- cancel, of any numbers, answers the amount of the sale that it removes from the ledger
+    pub gives-back : (machine sale : ℕ) → cancelCall key machine sale s .0 ≡ amountBack (found machine sale (b .standing))
+    -- and take is not refused where its numbers do not stand and fewer sales stand than the store has cells besides cell 0
+    pub takes : (x : Sale) → found (x .machine) (x .sale) (b .standing) ≡ [] → length (b .standing) + 1 < cells s
+        → (c : ℕ) × (takeCall key x s .0 ≡ Done c)
+
+-- the conserved total; proved as conserved in proofs/Conserved
+pub record Conserved : Type 0 where
+  -- from any store that total accepts: the ledger begins with its figure and the sales that open there
+  pub from-accepted : (key s : List ℕ) (first : ℕ) (calls : List Call) → length key ≡ 32 → Bytes key → AllFit calls
+      → totalCall key s ≡ Done first → Agrees key (run key calls s) (kept key calls s (opening first (salesIn key s)))
+  -- from a format on, of any store of a right length, whatever it held: the ledger begins at 0 with no sale
+  pub from-format : (key s : List ℕ) (calls : List Call) → length key ≡ 32 → Bytes key → AllFit calls → lengthFits s ≡ true
+      → Agrees key (run key calls (formatCall s .1)) (kept key calls (formatCall s .1) (opening 0 []))
+  -- "From the last format on, [..] the cash total equals coin amounts taken less coin amounts cancelled", of which there are no more:
+  -- a later format among the calls begins the ledger anew
+  pub since-format : (key s : List ℕ) (calls : List Call) → length key ≡ 32 → Bytes key → AllFit calls → lengthFits s ≡ true
+      → let b = kept key calls (formatCall s .1) (opening 0 []) in
+      (totalCall key (run key calls (formatCall s .1)) ≡ Done (coins (b .taken) - coins (b .cancelled))) × (coins (b .cancelled) ≤ coins (b .taken))
+  -- from any store that total accepts, until the next format: the figure that it began with is added
+  pub until-format : (key s : List ℕ) (first : ℕ) (calls : List Call) → length key ≡ 32 → Bytes key → AllFit calls → NoFormat calls
+      → totalCall key s ≡ Done first → let b = kept key calls s (opening first (salesIn key s)) in
+      (totalCall key (run key calls s) ≡ Done ((first + coins (b .taken)) - coins (b .cancelled))) × (coins (b .cancelled) ≤ first + coins (b .taken))

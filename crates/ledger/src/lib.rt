@@ -1,0 +1,1 @@
+// The conserved total of a store, over histories of calls; no code.

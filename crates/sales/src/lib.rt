@@ -1,0 +1,89 @@
+// A sale as the store holds it: written sealed, opened, and its part in the cash total. Key, amount,
+// means, record and tag decide no branch and no index.
+use crate::fields::amount_in;
+use crate::fields::put_nonce;
+use crate::fields::put_record;
+use mem::start::start;
+use mro::open;
+use mro::seal;
+ghost use mathlib.Core.Path.{_≡_};
+ghost use mathlib.Core.Bool.{cond};
+ghost use lib.Dec.{eqb};
+ghost use lib.ListN.{length};
+ghost use Rattle.cells.specs.Numbers.{numberAt};
+ghost use Rattle.sales.specs.Sale.{bodyFor, opens, held};
+
+mod fields;
+
+// A sale: the numbers that name it, the caller's eight bytes of the nonce, and what its record holds.
+pub struct Sale {
+    pub machine: u32,
+    pub sale: u32,
+    pub tail: [u8; 8],
+    // In cents.
+    pub amount: u32,
+    pub column: u16,
+    // 1 coin, 2 card; others are carried unread.
+    pub means: u8,
+    pub clock: [u8; 6],
+}
+
+// The 61 bytes: the nonce, and behind it the record sealed with an empty header.
+pub fn write_sale(key: &[u8], of: Sale, out: &mut [u8])
+    requires { ⌜ (length (now key) ≡ 32) × (length (now out) ≡ 61) ⌝ }
+    ensures { λ _. ⌜ now (out .exit) ≡ bodyFor (now (key .entry)) of ⌝ }
+{
+    let mut record = [0u8; 13];
+    put_record(of, &mut record);
+    put_nonce(of, &mut out[0..16]);
+    let first = start(key, &out[0..16], 6);
+    seal(first, 6, &key[0..0], &record, &mut out[16..]);
+}
+
+// Whether 61 bytes open, and the amount and the means of their record; 0 and 0 where they don't.
+pub struct Opened {
+    pub opens: bool,
+    pub amount: u32,
+    pub means: u8,
+}
+
+// What 61 bytes hold, read from their record, for which the last argument has room.
+fn open_record(key: &[u8], body: &[u8], out: &mut [u8]) -> Opened
+    requires { ⌜ (length (now key) ≡ 32) × ((length (now body) ≡ 61) × (length (now out) ≡ 13)) ⌝ }
+    ensures { λ r. ⌜ (r .opens ≡ opens (now (key .entry)) (now (body .entry))) × ((r .amount ≡ numberAt 4 0 (held (now (key .entry)) (now (body .entry)))) × (r .means ≡ numberAt 1 6 (held (now (key .entry)) (now (body .entry))))) ⌝ }
+{
+    let first = start(key, &body[0..16], 6);
+    let opens = open(first, 6, &body[0..0], &body[16..], out);
+    let amount = amount_in(out);
+    let means = out[6];
+    Opened {
+        opens,
+        amount,
+        means,
+    }
+}
+
+// What 61 bytes hold.
+pub fn open_sale(key: &[u8], body: &[u8]) -> Opened
+    requires { ⌜ (length (now key) ≡ 32) × (length (now body) ≡ 61) ⌝ }
+    ensures { λ r. ⌜ (r .opens ≡ opens (now (key .entry)) (now (body .entry))) × ((r .amount ≡ numberAt 4 0 (held (now (key .entry)) (now (body .entry)))) × (r .means ≡ numberAt 1 6 (held (now (key .entry)) (now (body .entry))))) ⌝ }
+{
+    let mut record = [0u8; 13];
+    open_record(key, body, &mut record)
+}
+
+// 1 where means is 1, coin, and else 0. There is no branch, since means is secret.
+fn coin(means: u8) -> u64
+    ensures { λ r. ⌜ r ≡ cond (eqb means 1) 1 0 ⌝ }
+{
+    // 0 for 1, and else 1 to 255.
+    let apart = (means as u64 + 255) % 256;
+    1 - (apart + 255) / 256
+}
+
+// The amount where means is coin, and else 0; the amount is secret too.
+pub fn cash_of(amount: u32, means: u8) -> u64
+    ensures { λ r. ⌜ r ≡ cond (eqb means 1) amount 0 ⌝ }
+{
+    amount as u64 * coin(means)
+}

@@ -1,0 +1,3 @@
+mod Sought
+mod Calls
+pub mod Small

@@ -1,0 +1,89 @@
+-- What the calls answer is small: each place, and each value but the total. Assumes nothing.
+use mathlib.Core.Path.{_≡_}
+use mathlib.Core.Bool.{true, not}
+use mathlib.Core.List.{List}
+use Prim.Native.Nat.{ℕ, _+_, _*_, _^_, _<_}
+use native.Mathlib.Omega.{arith}
+use lib.Dec.{eqb, lit<}
+use lib.ListN.{length}
+use borrow.Author.Tests.{eqb-false, not-false}
+use Rattle.words.specs.Block.{Bytes}
+use Rattle.words.proofs.Blocks.{bytes-take, bytes-drop}
+use Rattle.answers.specs.Answers.{valueOf, line}
+use Rattle.answers.specs.declared.Ground.the-variants.{KeyLength, TagDiffers, StoreForm, StoreFull, SaleNumbers}
+use Rattle.answers.specs.declared.Check.{Check}
+use Rattle.answers.specs.declared.Check.the-variants.{Clear}
+use Rattle.answers.proofs.Values.{placeOf, line-clear, lineAt-lt, checked-lt, judged-lt}
+use Rattle.cells.specs.Chains.{some, first}
+use Rattle.cells.specs.Cells.{cells, firstFree, bodyOf, sales, lengthFits, formed, present, cellNamed}
+use Rattle.cells.proofs.Chains.{first-in}
+use Rattle.cells.proofs.Form.{form-of}
+use Rattle.sales.specs.declared.Sale.{Sale}
+use Rattle.sales.proofs.Bodies.{amount-lt}
+use Rattle.entries.specs.Entries.{shutAt, saleAt}
+use Rattle.store.specs.Store.{formChecks, keyChecks, formatChecks, takeChecks, cancelChecks, totalChecks, readChecks, formatCall, takeCall, cancelCall, readCall}
+use Rattle.store.proofs.Sought.{cell-inside, free-inside}
+
+-- a cell of a store of right form
+cell-low : (s : List ℕ) (c : ℕ) → formed s ≡ true → c < cells s → 64 * c + 64 < 2 ^ 32
+cell-low s c e h = let f = form-of s e .size in omega (arith, f .whole, f .most)
+
+-- the checks in front have place 0
+form-place : (s : List ℕ) (next : Check) → (formed s ≡ true → placeOf next < 2 ^ 32) → placeOf (formChecks s next) < 2 ^ 32
+unfolding formChecks line
+form-place s next h = lineAt-lt (2 ^ 32) (not (formed s)) StoreForm 0 next (λ t. lit< tt) (λ t. h (not-false _ t))
+
+key-place : (key s : List ℕ) (next : Check) → (formed s ≡ true → placeOf next < 2 ^ 32) → placeOf (keyChecks key s next) < 2 ^ 32
+unfolding keyChecks line
+key-place key s next h = lineAt-lt (2 ^ 32) (not (eqb (length key) 32)) KeyLength 0 (formChecks s next) (λ t. lit< tt) (λ t. form-place s next h)
+
+-- where all checks are clear
+form-all : (s : List ℕ) (next : Check) → formChecks s next ≡ Clear → (formed s ≡ true) × (next ≡ Clear)
+unfolding formChecks
+form-all s next e = let f = line-clear (not (formed s)) StoreForm next e in (not-false (formed s) (f .0), f .1)
+
+key-all : (key s : List ℕ) (next : Check) → keyChecks key s next ≡ Clear → (formed s ≡ true) × (next ≡ Clear)
+unfolding keyChecks
+key-all key s next e = form-all s next (line-clear (not (eqb (length key) 32)) KeyLength _ e .1)
+
+pub format-small : (s : List ℕ) → valueOf (formatCall s .0) < 2 ^ 32
+unfolding formatCall formatChecks line
+format-small s =
+    checked-lt (2 ^ 32) (formatChecks s) s _ (lineAt-lt (2 ^ 32) (not (lengthFits s)) StoreForm 0 Clear (λ t. lit< tt) (λ t. lit< tt)) (λ e. lit< tt)
+
+pub take-small : (key : List ℕ) (x : Sale) (s : List ℕ) → valueOf (takeCall key x s .0) < 2 ^ 32
+unfolding takeCall takeChecks
+take-small key x s =
+    checked-lt (2 ^ 32) (takeChecks key x s) s _
+    (key-place key s _ (λ f. unfold line in lineAt-lt (2 ^ 32) (present (x .machine) (x .sale) s) SaleNumbers 0 _ (λ t. lit< tt)
+    (λ p. lineAt-lt (2 ^ 32) (eqb (firstFree s) 0) StoreFull 0 Clear (λ t. lit< tt) (λ t. lit< tt))))
+    (λ e.
+    let a = key-all key s _ e in
+    let free = line-clear (eqb (firstFree s) 0) StoreFull Clear (line-clear (present (x .machine) (x .sale) s) SaleNumbers _ (a .1) .1) .0 in
+    omega (arith, cell-low s (firstFree s) (a .0) (free-inside s (a .0) (eqb-false (firstFree s) 0 free))))
+
+pub cancel-small : (key : List ℕ) (machine sale : ℕ) (s : List ℕ) → Bytes s → valueOf (cancelCall key machine sale s .0) < 2 ^ 32
+unfolding cancelCall cancelChecks
+cancel-small key machine sale s h =
+    let c = cellNamed machine sale s in
+    checked-lt (2 ^ 32) (cancelChecks key machine sale s) s _
+    (key-place key s _ (λ f. unfold line in lineAt-lt (2 ^ 32) (not (present machine sale s)) SaleNumbers 0 _ (λ t. lit< tt)
+    (λ p. lineAt-lt (2 ^ 32) (shutAt key s c) TagDiffers c Clear (λ t. omega (arith, cell-low s c f (cell-inside machine sale s f (not-false _ p)))) (λ t. lit< tt))))
+    (λ e. unfold saleAt bodyOf in amount-lt key _ (bytes-take 61 _ (bytes-drop (64 * c + 3) s h)))
+
+-- total's value may be larger; its place is not
+pub total-place : (key s : List ℕ) → placeOf (totalChecks key s) < 2 ^ 32
+unfolding totalChecks
+total-place key s =
+    key-place key s _ (λ f. lineAt-lt (2 ^ 32) (some (shutAt key s) (sales s)) TagDiffers (first (shutAt key s) (sales s)) Clear
+    (λ t. omega (arith, cell-low s (first (shutAt key s) (sales s)) f (form-of s f .sold-here _ (first-in (shutAt key s) (sales s) t)))) (λ t. lit< tt))
+
+pub read-small : (machine sale : ℕ) (s : List ℕ) → valueOf (readCall machine sale s) < 2 ^ 32
+unfolding readCall readChecks
+read-small machine sale s =
+    judged-lt (2 ^ 32) (readChecks machine sale s) _
+    (form-place s _ (λ f. unfold line in lineAt-lt (2 ^ 32) (not (present machine sale s)) SaleNumbers 0 Clear (λ t. lit< tt) (λ t. lit< tt)))
+    (λ e.
+    let f = form-all s _ e in
+    let p = line-clear (not (present machine sale s)) SaleNumbers Clear (f .1) .0 in
+    omega (arith, cell-low s (cellNamed machine sale s) (f .0) (cell-inside machine sale s (f .0) (not-false _ p))))

@@ -1,0 +1,87 @@
+-- The store's calls: format, take, cancel, total and read (document 02, card 1). Assumes nothing.
+use mathlib.Core.Bool.{not}
+use mathlib.Core.List.{List, []}
+use Prim.Native.Nat.{ℕ, _+_, _*_}
+use lib.Dec.{eqb}
+use lib.ListN.{length}
+use Rattle.answers.specs.Answers.{line, lineAt, checked, judged}
+use Rattle.answers.specs.declared.Ground.the-variants.{KeyLength, TagDiffers, StoreForm, StoreFull, SaleNumbers}
+use Rattle.answers.specs.declared.Check.{Check}
+use Rattle.answers.specs.declared.Check.the-variants.{Clear, Fails}
+use Rattle.answers.specs.declared.Answer.{Answer}
+use Rattle.answers.specs.declared.Answer.the-variants.{Done}
+use Rattle.cells.specs.Chains.{some, first}
+use Rattle.cells.specs.Cells.{cells, firstFree, bodyOf, sales, lengthFits, formed, present, cellNamed, cellBefore}
+use Rattle.cells.specs.Changes.{fresh, filled, emptied}
+use Rattle.sales.specs.declared.Sale.{Sale}
+use Rattle.sales.specs.Sale.{bodyFor}
+use Rattle.entries.specs.Entries.{shutAt, saleAt, salesIn, cash}
+
+-- ---- checks
+
+-- the store's form, 14; then the checks behind it
+unfoldable pub formChecks : List ℕ → Check → Check
+formChecks s next = line (not (formed s)) StoreForm next
+
+-- where a key is taken, 3 first
+unfoldable pub keyChecks : List ℕ → List ℕ → Check → Check
+keyChecks key s next = line (not (eqb (length key) 32)) KeyLength (formChecks s next)
+
+-- format checks the length only
+unfoldable pub formatChecks : List ℕ → Check
+formatChecks s = line (not (lengthFits s)) StoreForm Clear
+
+-- take: 16 where the machine and sale number are already present, then 15 where no cell is free
+unfoldable pub takeChecks : List ℕ → Sale → List ℕ → Check
+takeChecks key x s = keyChecks key s (line (present (x .machine) (x .sale) s) SaleNumbers (line (eqb (firstFree s) 0) StoreFull Clear))
+
+-- cancel: 16 where machine and sale number are absent, then 9 with its cell where the sale won't open
+unfoldable pub cancelChecks : List ℕ → ℕ → ℕ → List ℕ → Check
+cancelChecks key machine sale s =
+    let c = cellNamed machine sale s in
+    keyChecks key s (line (not (present machine sale s)) SaleNumbers (lineAt (shutAt key s c) TagDiffers c Clear))
+
+-- total: 9 with the cell of the first sale in the chain that won't open
+unfoldable pub totalChecks : List ℕ → List ℕ → Check
+totalChecks key s = keyChecks key s (lineAt (some (shutAt key s) (sales s)) TagDiffers (first (shutAt key s) (sales s)) Clear)
+
+-- read, which takes no key: 16 where machine and sale number are absent
+unfoldable pub readChecks : ℕ → ℕ → List ℕ → Check
+readChecks machine sale s = formChecks s (line (not (present machine sale s)) SaleNumbers Clear)
+
+-- ---- calls: the answer, and the store afterwards; a refused call changes no byte of it
+
+-- format: all cells free, chained upward from 1; returns 0
+unfoldable pub formatCall : List ℕ → Answer × List ℕ
+formatCall s = checked (formatChecks s) s (Done 0, fresh (cells s))
+
+-- take: the first free cell holds the sale, at the front; returns its cell
+unfoldable pub takeCall : List ℕ → Sale → List ℕ → Answer × List ℕ
+takeCall key x s = checked (takeChecks key x s) s (Done (firstFree s), filled (bodyFor key x) s)
+
+-- cancel: gives back the amount that was deducted; the cell is zeroed behind its next index and first among the free
+unfoldable pub cancelCall : List ℕ → ℕ → ℕ → List ℕ → Answer × List ℕ
+cancelCall key machine sale s =
+    let c = cellNamed machine sale s in
+    checked (cancelChecks key machine sale s) s (Done (saleAt key s c .amount), emptied (cellBefore machine sale s) c s)
+
+-- total: the cash of all sales; the store is only read
+unfoldable pub totalCall : List ℕ → List ℕ → Answer
+totalCall key s = judged (totalChecks key s) (Done (cash (salesIn key s)))
+
+-- read: the offset in the store at which the sale's 61 bytes begin, byte 3 of its cell
+unfoldable pub readCall : ℕ → ℕ → List ℕ → Answer
+readCall machine sale s = judged (readChecks machine sale s) (Done (64 * cellNamed machine sale s + 3))
+
+-- a part of the store where the checks are clear, an empty part where refused
+unfoldable pub partWhere : Check → List ℕ → List ℕ
+partWhere Clear part = part
+partWhere (Fails ground place) part = []
+
+-- read as a part of the store itself: the sale's 61 bytes
+unfoldable pub readPart : ℕ → ℕ → List ℕ → List ℕ
+readPart machine sale s = partWhere (readChecks machine sale s) (bodyOf s (cellNamed machine sale s))
+
+-- read's second call: the number and place of the refusal, 0 and 0 where nothing is refused
+unfoldable pub readRefusal : ℕ → ℕ → List ℕ → Answer
+readRefusal machine sale s = judged (readChecks machine sale s) (Done 0)
