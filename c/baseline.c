@@ -1,18 +1,12 @@
-#include "baseline.h"
+#include "internal.h"
 
 #include <string.h>
 
-enum { WORDS = 16, BLOCK = 128, KEY = 32, NONCE = 16, TAG = 32, RUN = 16 };
+enum { WORDS = 16, BLOCK = 128, RUN = 16 };
 enum { MAX_HEADER = 4096, MAX_MESSAGE = 65536, MAX_STEPS = 4096, MAX_COUNT = 65536 };
-enum { OPP = 1, MRO = 2 };
 
 /* The round counts that seal and open take. */
 static const uint32_t ROUNDS[] = {4, 6};
-
-static inline uint64_t refuse(uint32_t number, uint32_t place)
-{
-    return (uint64_t)number << 32 | place;
-}
 
 /* Words and blocks. */
 

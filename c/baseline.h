@@ -1,6 +1,6 @@
 /*
  * The same construction written by hand in scalar C: what the library's speed
- * is measured against. The four calls answer as those of calmbaize.h do.
+ * is measured against. The calls answer as those of calmbaize.h do.
  */
 #ifndef BASELINE_H
 #define BASELINE_H
@@ -29,6 +29,26 @@ uint64_t baseline_walk(const uint8_t *start, size_t start_len,
 uint64_t baseline_jump(const uint8_t *start, size_t start_len,
                        int32_t alpha, int32_t beta, int32_t gamma,
                        uint8_t *output, size_t output_len);
+
+uint64_t baseline_store_format(uint8_t *store, size_t store_len);
+
+uint64_t baseline_store_take(const uint8_t *key, size_t key_len,
+                             uint8_t *store, size_t store_len,
+                             uint32_t machine, uint32_t sale,
+                             const uint8_t nonce_tail[8],
+                             uint32_t amount, uint16_t column, uint8_t means,
+                             const uint8_t clock[6]);
+
+uint64_t baseline_store_cancel(const uint8_t *key, size_t key_len,
+                               uint8_t *store, size_t store_len,
+                               uint32_t machine, uint32_t sale);
+
+uint64_t baseline_store_total(const uint8_t *key, size_t key_len,
+                              const uint8_t *store, size_t store_len,
+                              uint64_t *total);
+
+uint64_t baseline_store_read(const uint8_t *store, size_t store_len,
+                             uint32_t machine, uint32_t sale);
 
 /* The BLAKE2b permutation, any number of rounds. */
 void baseline_permute(uint32_t rounds, uint64_t s[16]);

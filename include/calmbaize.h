@@ -1,22 +1,29 @@
 /*
  * Calmbaize: authenticated encryption with OPP and MRO over a masked BLAKE2b
- * permutation, and the walk of its masks.
+ * permutation, the walk of its masks, and a store of sealed sales.
  *
  * Every call takes buffers of any length as a pointer and a length in bytes,
  * checks all its arguments itself and answers with one number, which
- * calmbaize_refusal(), calmbaize_place() and calmbaize_written() take apart.
+ * calmbaize_refusal(), calmbaize_place(), calmbaize_written() and
+ * calmbaize_value() take apart.
  *
  *   - A null pointer with length 0 is an empty buffer. With any other length
- *     the pointer must be valid for that many bytes.
- *   - Buffers must not overlap: no byte of the output may belong to another
- *     argument.
- *   - Nothing is kept between calls and nothing is allocated. Calls may
- *     run at the same time where no output overlaps a buffer of another call.
+ *     the pointer must be valid for that many bytes. A pointer that comes
+ *     without a length must be valid for what it is declared as.
+ *   - Buffers must not overlap: no byte of the output, of the store or of the
+ *     total may belong to another argument.
+ *   - Nothing is kept between calls and nothing is allocated. Calls may run at
+ *     the same time where nothing that one of them writes belongs to another.
  *   - An answer must be looked at: a refused call leaves the output as it was,
- *     or zero. Compilers warn where one is dropped.
+ *     or zero, and the store and the total as they were. Compilers warn where
+ *     one is dropped.
  *   - No branch and no address depends on the key, the nonce, the message, the
  *     parcel's content or its tag, or on the start of a walk or jump (checked on
  *     x86-64). Time depends on lengths, settings, step bytes and counts.
+ *   - In the store, none depends on the key, on what a sale's record holds, or
+ *     on its sealed bytes and tag, but for this: whether a sale opens, which the
+ *     answer tells (checked on x86-64). Time depends on its length, indices,
+ *     kinds and nonces, and on the numbers of the sale named.
  */
 #ifndef CALMBAIZE_H
 #define CALMBAIZE_H
@@ -25,16 +32,17 @@
 #include <stdint.h>
 
 /* The version, as text and as one number that grows. */
-#define CALMBAIZE_VERSION "0.1.0"
+#define CALMBAIZE_VERSION "0.2.0"
 #define CALMBAIZE_VERSION_MAJOR 0
-#define CALMBAIZE_VERSION_MINOR 1
+#define CALMBAIZE_VERSION_MINOR 2
 #define CALMBAIZE_VERSION_PATCH 0
 #define CALMBAIZE_VERSION_NUMBER \
     (CALMBAIZE_VERSION_MAJOR * 1000000 + CALMBAIZE_VERSION_MINOR * 1000 + CALMBAIZE_VERSION_PATCH)
 
 /*
- * The format of parcels. It goes up by one where calmbaize_seal() comes to write
- * other bytes for the same arguments; calmbaize_open() opens this format only.
+ * The format of parcels and of sealed sales. It goes up by one where
+ * calmbaize_seal() or calmbaize_store_take() comes to write other bytes for the
+ * same arguments; no other format is opened.
  */
 #define CALMBAIZE_FORMAT 1
 
@@ -65,6 +73,14 @@ extern "C" {
 #define CALMBAIZE_MESSAGE_BYTES_MAX 65536U
 #define CALMBAIZE_SEALED_BYTES_MAX (CALMBAIZE_MESSAGE_BYTES_MAX + CALMBAIZE_TAG_BYTES)
 
+/* Lengths of the store and of its parts, in bytes. */
+#define CALMBAIZE_CELL_BYTES 64U
+#define CALMBAIZE_STORE_BYTES_MIN 128U
+#define CALMBAIZE_STORE_BYTES_MAX 65536U
+#define CALMBAIZE_SALE_BYTES 61U /* the part that calmbaize_store_read() finds */
+#define CALMBAIZE_NONCE_TAIL_BYTES 8U
+#define CALMBAIZE_CLOCK_BYTES 6U
+
 /* Steps in one walk, and the bound on each net count of a jump. */
 #define CALMBAIZE_STEPS_MAX 4096U
 #define CALMBAIZE_COUNT_MAX 65536
@@ -74,6 +90,11 @@ extern "C" {
 #define CALMBAIZE_OPEN_STACK_BYTES 4096U
 #define CALMBAIZE_WALK_STACK_BYTES 8192U
 #define CALMBAIZE_JUMP_STACK_BYTES 8192U
+#define CALMBAIZE_STORE_FORMAT_STACK_BYTES 1024U
+#define CALMBAIZE_STORE_TAKE_STACK_BYTES 8192U
+#define CALMBAIZE_STORE_CANCEL_STACK_BYTES 8192U
+#define CALMBAIZE_STORE_TOTAL_STACK_BYTES 8192U
+#define CALMBAIZE_STORE_READ_STACK_BYTES 8192U
 
 /* Modes. OPP needs a fresh nonce for every message; MRO tolerates a repeated one. */
 #define CALMBAIZE_MODE_OPP 1U
@@ -87,6 +108,10 @@ extern "C" {
 #define CALMBAIZE_STEP_BETA_BACK 5U
 #define CALMBAIZE_STEP_GAMMA_BACK 6U
 
+/* Means of payment. Others are carried unread. */
+#define CALMBAIZE_MEANS_COIN 1U
+#define CALMBAIZE_MEANS_CARD 2U
+
 /* Refusals. */
 #define CALMBAIZE_OK 0U                       /* nothing refused */
 #define CALMBAIZE_REFUSED_MODE 1U             /* mode not 1 or 2 */
@@ -97,11 +122,14 @@ extern "C" {
 #define CALMBAIZE_REFUSED_INPUT_TOO_LONG 6U   /* message over 65,536 bytes, parcel over 65,568 */
 #define CALMBAIZE_REFUSED_OUTPUT_TOO_SHORT 7U /* output shorter than success writes */
 #define CALMBAIZE_REFUSED_INPUT_TOO_SHORT 8U  /* parcel under 32 bytes */
-#define CALMBAIZE_REFUSED_TAG 9U              /* tag differs */
+#define CALMBAIZE_REFUSED_TAG 9U              /* tag differs; of a sale, in the cell at the place */
 #define CALMBAIZE_REFUSED_START_LENGTH 10U    /* start not 128 bytes */
 #define CALMBAIZE_REFUSED_COUNT 11U           /* net count outside -65,536 to 65,536 */
 #define CALMBAIZE_REFUSED_STEP 12U            /* step byte outside 1 to 6, at the place */
 #define CALMBAIZE_REFUSED_TOO_MANY_STEPS 13U  /* list over 4,096 steps */
+#define CALMBAIZE_REFUSED_STORE_FORM 14U      /* length, index, kind or chains not a store's */
+#define CALMBAIZE_REFUSED_STORE_FULL 15U      /* no free cell */
+#define CALMBAIZE_REFUSED_SALE_NUMBERS 16U    /* numbers present on take, absent else */
 
 /* The refusal's number, or CALMBAIZE_OK. */
 static inline uint32_t calmbaize_refusal(uint64_t answer)
@@ -109,16 +137,26 @@ static inline uint32_t calmbaize_refusal(uint64_t answer)
     return (uint32_t)(answer >> 32);
 }
 
-/* Where the ground of a refusal lies: 0 but for CALMBAIZE_REFUSED_STEP. */
+/*
+ * Where the ground of a refusal lies: the step's place in the list for
+ * CALMBAIZE_REFUSED_STEP; the sale's cell for CALMBAIZE_REFUSED_TAG of
+ * calmbaize_store_cancel() and calmbaize_store_total(); else 0.
+ */
 static inline uint32_t calmbaize_place(uint64_t answer)
 {
     return calmbaize_refusal(answer) == CALMBAIZE_OK ? 0 : (uint32_t)answer;
 }
 
-/* The bytes written; 0 where the call was refused. */
+/* The bytes written by seal, open, walk or jump; 0 where the call was refused. */
 static inline size_t calmbaize_written(uint64_t answer)
 {
     return calmbaize_refusal(answer) == CALMBAIZE_OK ? (size_t)answer : 0;
+}
+
+/* The value that a call answers, as said at each of them; 0 where it was refused. */
+static inline uint32_t calmbaize_value(uint64_t answer)
+{
+    return calmbaize_refusal(answer) == CALMBAIZE_OK ? (uint32_t)answer : 0;
 }
 
 /*
@@ -182,6 +220,103 @@ CALMBAIZE_NODISCARD
 uint64_t calmbaize_jump(const uint8_t *start, size_t start_len,
                         int32_t alpha, int32_t beta, int32_t gamma,
                         uint8_t *output, size_t output_len);
+
+/*
+ * The store: one lent buffer of 128 to 65,536 bytes, a multiple of 64, in cells
+ * of 64 bytes, numbered from 0. Numbers stand low byte first.
+ *
+ *   cell 0     bytes 0, 1: the first sale's cell; bytes 2, 3: the first free
+ *              cell; then zeros
+ *   the others bytes 0, 1: the next cell in its chain, where 0 ends it; byte 2:
+ *              the kind, 0 free or 1 sale; then 61 bytes, zero where free:
+ *              nonce (16), sealed record (13), tag (32)
+ *
+ * The nonce is the machine number (4), the sale number (4) and a tail (8) that
+ * the caller chooses. The record is the amount in cents (4), column (2), means
+ * (1) and clock (6). Sealed record and tag are the parcel that calmbaize_seal()
+ * writes for it under MRO with six rounds and an empty header.
+ *
+ * Every call but format checks the store's form: the length; no index past the
+ * last cell; every cell but cell 0 exactly once in the two chains; kind 1 in the
+ * chain of sales and kind 0 in that of free cells. What a free cell holds behind
+ * its kind, and cell 0 behind its two indices, is not looked at.
+ *
+ * A sale is named by its machine and sale number. Where two in the chain of
+ * sales have both alike, the first is meant.
+ */
+
+/*
+ * Makes an empty store of a buffer, whatever it holds: all cells are free and
+ * chained upward from 1.
+ *
+ * Success writes every byte of the store and answers 0.
+ *
+ * Refused with 14 for the length alone; then no byte changes.
+ */
+CALMBAIZE_NODISCARD
+uint64_t calmbaize_store_format(uint8_t *store, size_t store_len);
+
+/*
+ * Seals a sale into the first free cell and puts it first among the sales.
+ *
+ * Success writes that cell and the two indices of cell 0, and answers the cell.
+ * The rest of the store is unchanged. Where numbers come again, after a
+ * cancellation, the tail should be another one: with the same nonce and record
+ * the same bytes are sealed.
+ *
+ * Refused, in this order, with 3, 14, 16 where a sale with these numbers is
+ * there, and 15; then no byte changes.
+ */
+CALMBAIZE_NODISCARD
+uint64_t calmbaize_store_take(const uint8_t *key, size_t key_len,
+                              uint8_t *store, size_t store_len,
+                              uint32_t machine, uint32_t sale,
+                              const uint8_t nonce_tail[CALMBAIZE_NONCE_TAIL_BYTES],
+                              uint32_t amount, uint16_t column, uint8_t means,
+                              const uint8_t clock[CALMBAIZE_CLOCK_BYTES]);
+
+/*
+ * Opens a sale, takes it out of the chain of sales and puts its cell first among
+ * the free ones.
+ *
+ * Success zeroes the cell behind its next index, writes that index, the index
+ * that led to the sale and the first free cell, and answers the amount. The rest
+ * of the store is unchanged.
+ *
+ * Refused, in this order, with 3, 14, 16 where no sale has these numbers, and 9
+ * where it does not open, with its cell as the place; then no byte changes.
+ */
+CALMBAIZE_NODISCARD
+uint64_t calmbaize_store_cancel(const uint8_t *key, size_t key_len,
+                                uint8_t *store, size_t store_len,
+                                uint32_t machine, uint32_t sale);
+
+/*
+ * Opens every sale and adds up the amounts of those whose means is coin.
+ *
+ * Success writes the sum, which may pass 2^32, to the total and answers 0. The
+ * store is unchanged.
+ *
+ * Refused, in this order, with 3, 14, and 9 where a sale, coin or not, does not
+ * open, with the cell of the first such in the chain as the place; then the
+ * total is unchanged.
+ */
+CALMBAIZE_NODISCARD
+uint64_t calmbaize_store_total(const uint8_t *key, size_t key_len,
+                               const uint8_t *store, size_t store_len,
+                               uint64_t *total);
+
+/*
+ * Finds a sale, and opens nothing.
+ *
+ * Success answers the offset in the store at which its 61 bytes begin: nonce,
+ * sealed record and tag. The store is unchanged.
+ *
+ * Refused, in this order, with 14, and 16 where no sale has these numbers.
+ */
+CALMBAIZE_NODISCARD
+uint64_t calmbaize_store_read(const uint8_t *store, size_t store_len,
+                              uint32_t machine, uint32_t sale);
 
 #ifdef __cplusplus
 }

@@ -12,7 +12,7 @@ work=$(mktemp -d) || exit 2
 trap 'rm -rf "$work"' EXIT
 # What these state is no answer of a call: the checks of the header, of the stack and of what is
 # installed hold them.
-elsewhere='CALMBAIZE_(H|VERSION(_[A-Z]+)?|NODISCARD|[A-Z]+_STACK_BYTES|FORMAT)'
+elsewhere='CALMBAIZE_(H|VERSION(_[A-Z]+)?|NODISCARD|[A-Z_]+_STACK_BYTES|FORMAT)'
 
 for file in libcalmbaize.a calmbaize.h; do
     if [ ! -f "$folder/$file" ]; then

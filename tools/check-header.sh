@@ -41,10 +41,11 @@ cat > "$work/answer.c" <<'END'
 int main(void)
 {
     uint64_t step = (uint64_t)CALMBAIZE_REFUSED_STEP << 32 | 4095U;
-    uint64_t parcel = CALMBAIZE_SEALED_BYTES_MAX;
+    uint64_t parcel = CALMBAIZE_SEALED_BYTES_MAX, amount = UINT32_MAX;
 
     return !(calmbaize_refusal(step) == 12U && calmbaize_place(step) == 4095U &&
-             calmbaize_written(step) == 0U && calmbaize_refusal(parcel) == CALMBAIZE_OK &&
+             calmbaize_written(step) == 0U && calmbaize_value(step) == 0U &&
+             calmbaize_value(amount) == UINT32_MAX && calmbaize_refusal(parcel) == CALMBAIZE_OK &&
              calmbaize_place(parcel) == 0U && calmbaize_written(parcel) == 65568U &&
              strcmp(CALMBAIZE_VERSION, VERSION) == 0);
 }

@@ -15,6 +15,7 @@ if [ ! -f "$folder/libcalmbaize.a" ]; then
     echo "check-stack: $folder/libcalmbaize.a is missing: run make" >&2
     exit 2
 fi
+# C's memory functions are bound when the program starts: binding in a call would take of its stack.
 ${CC:-cc} -std=c99 -O1 -Wall -Wextra -I "$root/include" "$root/tools/stack.c" \
-    "$folder/libcalmbaize.a" -o "$work/stack" || exit 2
+    "$folder/libcalmbaize.a" -Wl,-z,now -o "$work/stack" || exit 2
 "$work/stack"

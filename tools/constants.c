@@ -1,6 +1,7 @@
 /*
  * Holds the constants of calmbaize.h against the archive: each refusal is provoked, each length and
- * limit passes where the next one is refused, and each mode and step byte does what its name says.
+ * limit passes where the next one is refused, and each mode, step byte and means does what its name
+ * says.
  *
  * Prints a line for each constant: "held" or "failed", and its name.
  */
@@ -13,13 +14,17 @@
 #define HOLD(name, truth) hold(#name, truth)
 #define REFUSE(name, answer) hold(#name, refused(answer, name))
 
-enum { BLOCK = CALMBAIZE_BLOCK_BYTES, TAG = CALMBAIZE_TAG_BYTES };
+enum { BLOCK = CALMBAIZE_BLOCK_BYTES, TAG = CALMBAIZE_TAG_BYTES, CELL = CALMBAIZE_CELL_BYTES };
+/* The one machine's number. */
+enum { MACHINE = 7 };
 
 /* Each has room for one byte more than is allowed. */
 static uint8_t key[CALMBAIZE_KEY_BYTES + 1], nonce[CALMBAIZE_NONCE_BYTES + 1];
 static uint8_t header[CALMBAIZE_HEADER_BYTES_MAX + 1], message[CALMBAIZE_MESSAGE_BYTES_MAX + 1];
 static uint8_t parcel[CALMBAIZE_SEALED_BYTES_MAX + 1], output[CALMBAIZE_SEALED_BYTES_MAX + 1];
 static uint8_t start[BLOCK + 1], steps[CALMBAIZE_STEPS_MAX + 1];
+static uint8_t tail[CALMBAIZE_NONCE_TAIL_BYTES + 1], hour[CALMBAIZE_CLOCK_BYTES + 1];
+static uint8_t store[CALMBAIZE_STORE_BYTES_MAX + CELL];
 
 /* The arguments, one of which gets another value than the usual one in each call below. */
 enum argument { MODE, ROUNDS, KEY, NONCE, HEADER, INPUT, OUTPUT, START, STEPS, ARGUMENTS };
@@ -115,6 +120,105 @@ static void lengths(void)
              most(open, INPUT, CALMBAIZE_SEALED_BYTES_MAX, CALMBAIZE_REFUSED_INPUT_TOO_LONG));
 }
 
+/* A store of so many cells in which all are free. */
+static int formatted(size_t cells)
+{
+    return passes(calmbaize_store_format(store, cells * CELL));
+}
+
+static uint64_t take(size_t cells, uint32_t sale, uint32_t amount, uint8_t means)
+{
+    return calmbaize_store_take(key, CALMBAIZE_KEY_BYTES, store, cells * CELL, MACHINE, sale, tail,
+                                amount, 0, means, hour);
+}
+
+static uint64_t cancel(size_t cells, uint32_t sale)
+{
+    return calmbaize_store_cancel(key, CALMBAIZE_KEY_BYTES, store, cells * CELL, MACHINE, sale);
+}
+
+static uint64_t read(size_t cells, uint32_t sale)
+{
+    return calmbaize_store_read(store, cells * CELL, MACHINE, sale);
+}
+
+/* No length of a store stands between these two. */
+static int no_length_between(size_t from, size_t to)
+{
+    for (size_t len = from + 1; len < to; len++)
+        if (!refused(calmbaize_store_format(store, len), CALMBAIZE_REFUSED_STORE_FORM))
+            return 0;
+    return 1;
+}
+
+static int is_length(size_t len)
+{
+    return passes(calmbaize_store_format(store, len));
+}
+
+/* The part of the second sale begins with its numbers and ends with its cell. */
+static int sale_part(void)
+{
+    const uint8_t numbers[] = {MACHINE, 0, 0, 0, 5, 0, 0, 0};
+    uint32_t cell, offset;
+
+    if (!formatted(4) || !passes(take(4, 4, 0, 0)))
+        return 0;
+    cell = calmbaize_value(take(4, 5, 0, 0));
+    offset = calmbaize_value(read(4, 5));
+    return offset + CALMBAIZE_SALE_BYTES == (cell + 1) * CELL &&
+           memcmp(store + offset, numbers, sizeof numbers) == 0;
+}
+
+/* The sale's bytes are others where the last of the buffer's len bytes is, and not where one behind is. */
+static int reads_just(uint8_t *buffer, size_t len)
+{
+    uint8_t taken[3][2 * CELL];
+
+    for (int i = 0; i < 3; i++) {
+        buffer[len - 1] ^= i == 1;
+        buffer[len] ^= i == 2;
+        if (!formatted(2) || !passes(take(2, 1, 0, 0)))
+            return 0;
+        memcpy(taken[i], store, sizeof taken[i]);
+    }
+    return memcmp(taken[0], taken[1], sizeof taken[0]) != 0 &&
+           memcmp(taken[1], taken[2], sizeof taken[1]) == 0;
+}
+
+static void store_lengths(void)
+{
+    HOLD(CALMBAIZE_CELL_BYTES,
+         is_length(CALMBAIZE_STORE_BYTES_MIN + CELL) &&
+             no_length_between(CALMBAIZE_STORE_BYTES_MIN, CALMBAIZE_STORE_BYTES_MIN + CELL));
+    HOLD(CALMBAIZE_STORE_BYTES_MIN, is_length(CALMBAIZE_STORE_BYTES_MIN) && !is_length(0) &&
+                                        no_length_between(0, CALMBAIZE_STORE_BYTES_MIN));
+    HOLD(CALMBAIZE_STORE_BYTES_MAX,
+         is_length(CALMBAIZE_STORE_BYTES_MAX) &&
+             no_length_between(CALMBAIZE_STORE_BYTES_MAX, CALMBAIZE_STORE_BYTES_MAX + CELL + 1));
+    HOLD(CALMBAIZE_SALE_BYTES, sale_part());
+    HOLD(CALMBAIZE_NONCE_TAIL_BYTES, reads_just(tail, CALMBAIZE_NONCE_TAIL_BYTES));
+    HOLD(CALMBAIZE_CLOCK_BYTES, reads_just(hour, CALMBAIZE_CLOCK_BYTES));
+}
+
+/* What a total makes of one sale of that means. */
+static uint64_t total_of(uint8_t means, uint32_t amount)
+{
+    uint64_t total = UINT64_MAX;
+
+    if (!formatted(2) || !passes(take(2, 1, amount, means)) ||
+        !passes(calmbaize_store_total(key, CALMBAIZE_KEY_BYTES, store, 2 * CELL, &total)))
+        return UINT64_MAX;
+    return total;
+}
+
+static void means_of_payment(void)
+{
+    HOLD(CALMBAIZE_MEANS_COIN, total_of(CALMBAIZE_MEANS_COIN, 150) == 150);
+    /* The archive tells it from no other means that is not coin. */
+    HOLD(CALMBAIZE_MEANS_CARD, total_of(CALMBAIZE_MEANS_CARD, 150) == 0 && CALMBAIZE_MEANS_CARD == 2);
+}
+
 static int count_refused(int32_t count)
 {
     return refused(jump(count, 0, 0), CALMBAIZE_REFUSED_COUNT) &&
@@ -179,7 +283,7 @@ static uint64_t open_damaged(void)
     return open(INPUT, TAG);
 }
 
-/* The one refusal with a place. */
+/* A walk's refusal has the step's place. */
 static int step_refused_at(size_t place)
 {
     uint8_t list[] = {1, 1, 1, 1};
@@ -191,7 +295,34 @@ static int step_refused_at(size_t place)
            calmbaize_written(answer) == 0;
 }
 
-static void refusals(void)
+/* A tag's refusal has a place where the tag is a sale's. */
+static int sale_refused_in(size_t cell)
+{
+    uint64_t total = 1, cancelled, added;
+
+    if (!formatted(4) || calmbaize_value(take(4, 1, 0, 0)) != 1 ||
+        calmbaize_value(take(4, 2, 0, 0)) != 2)
+        return 0;
+    store[(cell + 1) * CELL - 1] ^= 1;
+    cancelled = cancel(4, (uint32_t)cell);
+    added = calmbaize_store_total(key, CALMBAIZE_KEY_BYTES, store, 4 * CELL, &total);
+    return calmbaize_refusal(cancelled) == CALMBAIZE_REFUSED_TAG &&
+           calmbaize_place(cancelled) == cell && added == cancelled && total == 1;
+}
+
+/* The second sale in a store of one. */
+static uint64_t take_into_full(void)
+{
+    return formatted(2) && passes(take(2, 1, 0, 0)) ? take(2, 2, 0, 0) : 0;
+}
+
+/* The same sale again. */
+static uint64_t take_twice(void)
+{
+    return formatted(3) && passes(take(3, 1, 0, 0)) ? take(3, 1, 0, 0) : 0;
+}
+
+static void refusals_of_lengths_and_settings(void)
 {
     HOLD(CALMBAIZE_OK, wrote(seal(INPUT, 0), TAG) && wrote(open(INPUT, TAG), 0));
     REFUSE(CALMBAIZE_REFUSED_MODE, seal(MODE, 0));
@@ -202,11 +333,21 @@ static void refusals(void)
     REFUSE(CALMBAIZE_REFUSED_INPUT_TOO_LONG, seal(INPUT, sizeof message));
     REFUSE(CALMBAIZE_REFUSED_OUTPUT_TOO_SHORT, seal(OUTPUT, TAG - 1));
     REFUSE(CALMBAIZE_REFUSED_INPUT_TOO_SHORT, open(INPUT, TAG - 1));
-    REFUSE(CALMBAIZE_REFUSED_TAG, open_damaged());
     REFUSE(CALMBAIZE_REFUSED_START_LENGTH, walk(START, 0));
     REFUSE(CALMBAIZE_REFUSED_COUNT, jump(0, 0, INT32_MIN));
-    HOLD(CALMBAIZE_REFUSED_STEP, step_refused_at(0) && step_refused_at(3));
     REFUSE(CALMBAIZE_REFUSED_TOO_MANY_STEPS, walk(STEPS, sizeof steps));
+}
+
+static void other_refusals(void)
+{
+    REFUSE(CALMBAIZE_REFUSED_TAG, open_damaged());
+    HOLD(CALMBAIZE_REFUSED_TAG, sale_refused_in(1) && sale_refused_in(2));
+    HOLD(CALMBAIZE_REFUSED_STEP, step_refused_at(0) && step_refused_at(3));
+    REFUSE(CALMBAIZE_REFUSED_STORE_FORM, calmbaize_store_format(store, 0));
+    REFUSE(CALMBAIZE_REFUSED_STORE_FULL, take_into_full());
+    REFUSE(CALMBAIZE_REFUSED_SALE_NUMBERS, take_twice());
+    REFUSE(CALMBAIZE_REFUSED_SALE_NUMBERS, cancel(3, 2));
+    REFUSE(CALMBAIZE_REFUSED_SALE_NUMBERS, read(3, 2));
 }
 
 int main(void)
@@ -215,8 +356,11 @@ int main(void)
     for (size_t i = 0; i < sizeof start; i++)
         start[i] = (uint8_t)(i * i + 1);
     lengths();
+    store_lengths();
     bounds_of_steps();
     modes_and_steps();
-    refusals();
+    means_of_payment();
+    refusals_of_lengths_and_settings();
+    other_refusals();
     return 0;
 }

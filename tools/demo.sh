@@ -1,6 +1,6 @@
 #!/bin/sh
 # The main job with the command line tool: seals a sale, opens it, shows that a damaged parcel is
-# refused, and steps a mask on and back in two orders.
+# refused, steps a mask on and back in two orders, and keeps sales in a store.
 #
 # usage: demo.sh CALMBAIZE
 #
@@ -51,3 +51,37 @@ cmp one three
 "$tool" walk --steps GAAA --input one --output back
 cmp start back
 echo "and back with GAAA:   the start again"
+
+# Number, amount in cents.
+take() {
+    "$tool" store take till --key-file key --machine 11 --sale "$1" --amount "$2" --column 4 \
+        --means coin
+}
+
+"$tool" store format till --cells 8
+[ "$(hex till | cut -c 1-8)" = 00000100 ]
+echo "a store of 8 cells:   $(hex till | cut -c 1-40)..."
+take 1 150 > one
+take 2 320 > two
+echo "two sales in coins:   150 in cell $(cat one), 320 in cell $(cat two)"
+grep -qx 1 one
+grep -qx 2 two
+"$tool" store read till --machine 11 --sale 2 --output part
+tail -c +132 till | head -c 61 | cmp - part
+echo "the second, sealed:   $(hex part | cut -c 1-40)..."
+"$tool" store total till --key-file key > total
+echo "cash total:           $(cat total)"
+grep -qx 470 total
+"$tool" store cancel till --key-file key --machine 11 --sale 1 > amount
+"$tool" store total till --key-file key > total
+echo "the first cancelled:  $(cat amount) back, cash total $(cat total)"
+grep -qx 150 amount
+grep -qx 320 total
+
+cp till before
+status=0
+"$tool" store cancel till --key-file key --machine 11 --sale 1 2> error || status=$?
+echo "and once more:        $(cat error) (status $status)"
+grep -q 'refused with 16' error
+[ "$status" -eq 1 ]
+cmp till before

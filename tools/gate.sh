@@ -76,6 +76,7 @@ if [ -f dist/libcalmbaize.a ]; then
     part "maskwalk" cargo_in_rust run --package compare -- --maskwalk ../target/bin/maskwalk maskwalk
     part "stack" tools/check-stack.sh
     part "secrets" tools/check-secrets.sh
+    part "traces" tools/check-traces.sh
 fi
 echo "$passed passed, $failed failed"
 [ "$failed" -eq 0 ] && [ "$passed" -gt 0 ]

@@ -120,6 +120,7 @@ build "$work/sound"
 expect 0 "sound: compare" compare "$work/sound" all
 expect 0 "sound: cases" compare "$work/sound" vectors "$root"/rust/compare/cases/*.txt
 expect 0 "sound: secrets" "$root/tools/check-secrets.sh" "$work/sound" 1
+expect 0 "sound: traces" "$root/tools/check-traces.sh" "$work/sound"
 expect 0 "sound: stack" "$root/tools/check-stack.sh" "$work/sound"
 expect 0 "sound: archive" "$root/tools/check-archive.sh" "$work/sound"
 expect 0 "sound: header" "$root/tools/check-header.sh" "$work/sound"
@@ -149,11 +150,49 @@ planted "an address made of the start" \
 planted "a branch in a back step" \
     's/uint64_t select = -bit(x, k);/if (bit(x, k)) { volatile int x = 1; (void)x; } &/' \
     "$root/tools/check-secrets.sh" "$faulty" 1
+planted "a branch on the amount taken" \
+    '/^uint64_t baseline_store_take/,/^}/s/put32(record + AMOUNT, amount);/if (amount == 1) { volatile int x = 1; (void)x; } &/' \
+    "$root/tools/check-secrets.sh" "$faulty" 1
+planted "a branch on the means of a sale" \
+    's/uint64_t differs = .*;/& if (differs == 0) { volatile int x = 1; (void)x; }/' \
+    "$root/tools/check-secrets.sh" "$faulty" 1
+planted "a look at a sale's tag before it is opened" \
+    '/^static int open_sale/,/^}/s/return/if (cell[CELL - 1] == 1) return 0; &/' \
+    "$root/tools/check-secrets.sh" "$faulty" 1
+planted "a look at what is sealed, on read" \
+    '/^uint64_t baseline_store_read/,/^}/s/if (index == 0)/if (store[CELL * index + SEALED] == 1) { volatile int x = 1; (void)x; } &/' \
+    "$root/tools/check-secrets.sh" "$faulty" 1
+planted "an address made of the amount" \
+    '/^uint64_t baseline_store_cancel/,/^}/s/memset(cell, 0, CELL);/volatile uint8_t x = store[record[AMOUNT] % CELL]; (void)x; &/' \
+    "$root/tools/check-secrets.sh" "$faulty" 1
+expect 1 "an address made of the amount, in the trace" "$root/tools/check-traces.sh" "$faulty"
+# Beside the branch on the tag it would be one too many for the count, so that one goes by masks here.
+cat > "$work/total.sed" << 'END'
+/^uint64_t baseline_open/,/^}/ {
+    s/if (\(tag_differs(.*)\)) {/uint64_t bad = -(uint64_t)\1; {/
+    s/if (len > 0)/for (size_t i = 0; i < len; i++)/
+    s/memset(output, 0, len)/output[i] \&= (uint8_t)~bad/
+    s/return refuse(9, 0)/return (refuse(9, 0) \& bad) | (len \& ~bad)/
+}
+/^uint64_t baseline_store_total/,/^}/ {
+    s/sum = 0;/sum = 0, bad = 0;/
+    s/if (!\(open_sale(.*)\))/bad |= refuse(9, index) \& -(uint64_t)(!\1 \& (bad == 0));/
+    /return refuse(9, index);/d
+    s/\*total = sum;/uint64_t keep = -(uint64_t)(bad != 0); *total = (*total \& keep) | (sum \& ~keep);/
+    s/return 0;/if (sum > 1000) { volatile int x = 1; (void)x; } return bad;/
+}
+END
+planted "a branch on the total in place of that on the tag" "$(cat "$work/total.sed")" \
+    "$root/tools/check-traces.sh" "$faulty"
+expect 0 "the same branch, by its count" "$root/tools/check-secrets.sh" "$faulty"
 planted "a deep stack" \
     '/^static void start_block/,/^}/s/load(start, bytes);/volatile uint8_t deep[9000]; deep[0] = 0; &/' \
     "$root/tools/check-stack.sh" "$faulty"
 planted "rounds that no check tries" \
     's/= check_settings(mode, rounds,/= check_settings(mode, rounds == 8 ? 4 : rounds,/' \
+    "$root/tools/check-stack.sh" "$faulty"
+planted "a deep stack in the store" \
+    '/^static int well_formed/,/^}/s/sales = follow/volatile uint8_t deep[5000]; deep[0] = 0; &/' \
     "$root/tools/check-stack.sh" "$faulty"
 planted "a call outside" \
     '/^uint64_t baseline_walk/,/^}/s/load(m, start);/extern int puts(const char *); puts("walk"); &/' \
@@ -161,14 +200,14 @@ planted "a call outside" \
 planted "state between calls" \
     '/^uint64_t baseline_walk/,/^}/s/load(m, start);/static int calls; output[0] = (uint8_t)calls++; &/' \
     "$root/tools/check-archive.sh" "$faulty"
-planted "a fifth call" \
-    's/^#include "baseline.h"/&\nuint64_t calmbaize_fifth(void) { return 0; }/' \
+planted "a call too many" \
+    's/^static int allowed(/uint64_t calmbaize_leap(void) { return 0; }\n&/' \
     "$root/tools/check-archive.sh" "$faulty"
 planted "a function that is not local" \
     's/^static void build_inverses/void build_inverses/' \
     "$root/tools/check-archive.sh" "$faulty"
 planted "a table that is not local" \
-    's/^#include "baseline.h"/&\nconst uint8_t table[4] = {1, 2, 3, 4};/' \
+    's/^static int allowed(/const uint8_t table[4] = {1, 2, 3, 4};\n&/' \
     "$root/tools/check-archive.sh" "$faulty"
 planted "a call under another name" \
     's/^uint64_t baseline_jump/uint64_t calmbaize_leap/' \
@@ -215,12 +254,54 @@ planted "the lengths exchanged" \
 planted "another start" \
     's/memcpy(bytes, nonce, NONCE);/&  bytes[80] = 4;/' \
     compare "$faulty" random
+planted "sales sealed with four rounds" \
+    's/ROUNDS = 6/ROUNDS = 4/' \
+    compare "$faulty" store
+planted "sealed bytes left in a cancelled cell" \
+    's/memset(cell, 0, CELL)/memset(cell, 0, SEALED)/' \
+    compare "$faulty" store
+planted "a cancelled cell that is lost" \
+    '/^uint64_t baseline_store_cancel/,/^}/s/put16(store + FIRST_FREE, index);//' \
+    compare "$faulty" store
+planted "cards in the cash total" \
+    's/get32(record + AMOUNT) & coin/get32(record + AMOUNT)/' \
+    compare "$faulty" store
+planted "a total of 32 bits" \
+    's/uint64_t sum = 0/uint32_t sum = 0/' \
+    compare "$faulty" store
+planted "a full store refused before the sale's numbers" \
+    's/if (find(store, machine, sale, &before) != 0)/if (get16(store + FIRST_FREE) == 0) return refuse(15, 0); &/' \
+    compare "$faulty" store
+planted "a store with cells in neither chain" \
+    's/sales + others == cells - 1/sales + others < cells/' \
+    compare "$faulty" store-damage
+planted "kinds that are not looked at" \
+    's/if (store\[CELL \* i + KIND\] != kind)/if (0)/' \
+    compare "$faulty" store-damage
+planted "a store refused for what a free cell holds" \
+    's/if (store\[CELL \* i + KIND\] != kind)/if (store[CELL * i + KIND] != kind || (kind == FREE \&\& store[CELL * i + CELL - 1] != 0))/' \
+    compare "$faulty" store-damage
+planted "of two sales alike, the last" \
+    '/^static uint32_t find/,/^}/s/return index;/for (uint32_t i = index; i != 0; i = get16(store + CELL * i)) if (memcmp(store + CELL * i + NUMBERS, numbers, sizeof numbers) == 0) index = i; &/' \
+    compare "$faulty" store-damage
+planted "a refused cancellation that changes the store" \
+    '/^uint64_t baseline_store_cancel/,/^}/s/return refuse(9, index);/{ cell[CELL - 1] = 0; return refuse(9, index); }/' \
+    compare "$faulty" store-damage
+planted "a total written though refused" \
+    '/^uint64_t baseline_store_total/,/^}/s/return refuse(9, index);/{ *total = sum; return refuse(9, index); }/' \
+    compare "$faulty" store-damage
+planted "an index read past the last cell" \
+    's/index >= cells/index > cells/' \
+    compare "$faulty" guard
 
 planted "another start, in the cases" \
     's/memcpy(bytes, nonce, NONCE);/&  bytes[80] = 4;/' \
     compare "$faulty" vectors "$root"/rust/compare/cases/*.txt
 planted "another start under the same format" \
     's/memcpy(bytes, nonce, NONCE);/&  bytes[80] = 4;/' \
+    "$root/tools/check-install.sh" "$faulty"
+planted "another order in the record of a sale" \
+    's/AMOUNT = 0, COLUMN = 4/AMOUNT = 2, COLUMN = 0/' \
     "$root/tools/check-install.sh" "$faulty"
 planted_install "another library's name for pkg-config" calmbaize.pc 's/-lcalmbaize/-lcalmbaise/'
 planted_install "another version for pkg-config" calmbaize.pc 's/^Version: /&1/'
@@ -233,14 +314,18 @@ planted "a timed call that is refused" \
     's/MAX_MESSAGE = 65536/MAX_MESSAGE = 65535/' \
     bench "$faulty"
 
+planted "a timed call of the store that is refused" \
+    's/MAX_STORE = 65536/MAX_STORE = 65472/' \
+    bench "$faulty"
+
 planted_header "a header that does not compile" 's/size_t key_len/key_len/'
 planted_header "open's answer may be dropped" \
     '/^CALMBAIZE_NODISCARD$/ { N; /calmbaize_open/s/.*\n// }'
 planted_header "answers may be dropped in C++17" 's/NODISCARD \[\[nodiscard\]\]/NODISCARD/'
-planted_header "another version than Cargo.toml's" 's/VERSION_MINOR 1/VERSION_MINOR 2/'
+planted_header "another version than Cargo.toml's" 's/VERSION_MINOR 2/VERSION_MINOR 3/'
 planted_header "another text of the version" 's/VERSION "0/&0/'
 planted_header "parts that only add up to the version" \
-    's/VERSION_MINOR 1/VERSION_MINOR 0/; s/VERSION_PATCH 0/VERSION_PATCH 1000/'
+    's/VERSION_MINOR 2/VERSION_MINOR 1/; s/VERSION_PATCH 0/VERSION_PATCH 1000/'
 
 planted_constants "a refusal under another number" 's/REFUSED_COUNT 11U/REFUSED_COUNT 14U/'
 planted_constants "two refusals exchanged" \
@@ -251,6 +336,17 @@ planted_constants "the modes exchanged" 's/MODE_OPP 1U/MODE_OPP 2U/; s/MODE_MRO 
 planted_constants "a limit that is too small" 's/STEPS_MAX 4096U/STEPS_MAX 4095U/'
 planted_constants "a limit that is too large" 's/COUNT_MAX 65536/COUNT_MAX 65537/'
 planted_constants "a length without the tag" 's/SEALED_BYTES_MAX .*/SEALED_BYTES_MAX 65536U/'
+planted_constants "cells of half the length" 's/CELL_BYTES 64U/CELL_BYTES 32U/'
+planted_constants "a store one cell too short" 's/STORE_BYTES_MAX 65536U/STORE_BYTES_MAX 65472U/'
+planted_constants "a store one cell too long" 's/STORE_BYTES_MAX 65536U/STORE_BYTES_MAX 65600U/'
+planted_constants "a store with no cell but cell 0" 's/STORE_BYTES_MIN 128U/STORE_BYTES_MIN 64U/'
+planted_constants "a sale without its nonce" 's/SALE_BYTES 61U/SALE_BYTES 45U/'
+planted_constants "a tail of seven bytes" 's/NONCE_TAIL_BYTES 8U/NONCE_TAIL_BYTES 7U/'
+planted_constants "a clock of seven bytes" 's/CLOCK_BYTES 6U/CLOCK_BYTES 7U/'
+planted_constants "coin and card exchanged" \
+    's/MEANS_COIN 1U/MEANS_COIN 2U/; s/MEANS_CARD 2U/MEANS_CARD 1U/'
+planted_constants "two refusals of the store exchanged" \
+    's/STORE_FULL 15U/STORE_FULL 16U/; s/SALE_NUMBERS 16U/SALE_NUMBERS 15U/'
 planted_constants "a constant that no check holds" \
     's/^#define CALMBAIZE_STEP_ALPHA 1U/&\n#define CALMBAIZE_STEP_DELTA 7U/'
 planted "another limit than the header's" \
@@ -258,6 +354,9 @@ planted "another limit than the header's" \
     "$root/tools/check-constants.sh" "$faulty"
 planted "a place with every refusal" \
     's/return (uint64_t)number << 32 | place;/return (uint64_t)number << 32 | (place + 1);/' \
+    "$root/tools/check-constants.sh" "$faulty"
+planted "a sale's refusal without its cell" \
+    's/return refuse(9, index);/return refuse(9, 0);/' \
     "$root/tools/check-constants.sh" "$faulty"
 
 planted_layout "layout: Rust" "cargo fmt --version" rust/reference/src/lib.rs '\n\n\n'
@@ -267,10 +366,10 @@ planted_layout "layout: Rattle" "rt version" crates/words/src/lib.rt '\n\n\n'
 planted_layout "layout: a warning of shellcheck" "shellcheck --version" tools/need.sh 'planted=1\n'
 
 echo none > "$faulty/libcalmbaize.a"
-for check in archive constants secrets stack; do
+for check in archive constants secrets stack traces; do
     expect 2 "$check: an archive that is none" "$root/tools/check-$check.sh" "$faulty"
 done
-for check in constants header install; do
+for check in constants header install traces; do
     expect 2 "$check: no compiler" env CC="$work/none" "$root/tools/check-$check.sh" "$work/sound"
 done
 # Drops valgrind's options and runs the program bare.
@@ -279,9 +378,13 @@ printf '#!/bin/sh\nwhile [ "${1#--}" != "$1" ]; do shift; done\nexec "$@"\n' > "
 chmod +x "$work/bare/valgrind"
 expect 2 "secrets: a program that is not under valgrind" \
     env PATH="$work/bare:$PATH" "$root/tools/check-secrets.sh" "$work/sound" 1
+expect 2 "traces: a program that is not under valgrind" \
+    env PATH="$work/bare:$PATH" "$root/tools/check-traces.sh" "$work/sound"
 printf '#!/bin/sh\nexit 1\n' > "$work/bare/valgrind"
 expect 2 "secrets: a valgrind that can't run" \
     env PATH="$work/bare:$PATH" "$root/tools/check-secrets.sh" "$work/sound" 1
+expect 2 "traces: a valgrind that can't run" \
+    env PATH="$work/bare:$PATH" "$root/tools/check-traces.sh" "$work/sound"
 
 cargo build --quiet --offline --manifest-path "$root/rust/Cargo.toml" --package reference \
     --example maskwalk || exit 2

@@ -1,12 +1,16 @@
 /*
  * Seals and opens with the key, the nonce, the message, the parcel and its tag marked undefined, and
- * walks and jumps with the start marked so. Under valgrind's memcheck every branch and every address
- * that depends on one of them is an error.
+ * walks and jumps with the start marked so. In the store the key, the record of a sale, its sealed
+ * bytes and its tag are marked; indices, kinds and nonces are not. Under valgrind's memcheck every
+ * branch and every address that depends on one of them is an error.
  *
  * usage: secrets [VERDICT]
  *
  * VERDICT is how many branches on whether the tag differs are allowed in an open call, 0 if it is
  * not given. Comparing the tag itself may never branch, and takes more than one branch if it does.
+ *
+ * The store's answer tells which sale does not open, so one branch is allowed for each sale that a
+ * call opens. That it is on nothing but this, the check of the traces shows.
  */
 #include <stdio.h>
 #include <stdlib.h>
@@ -18,10 +22,20 @@
 #include "settings.h"
 
 enum { MAX = 4096, TAG = CALMBAIZE_TAG_BYTES, KINDS = 6, RUN = 10, STEPS = KINDS * RUN };
+enum { CELL = CALMBAIZE_CELL_BYTES, CELLS = 6, SALES = CELLS - 1, MACHINE = 7, RECORD = 13 };
+/* Where a cell's sealed record and tag begin. */
+enum { SEALED = CELL - TAG - RECORD };
 
 static uint8_t key[CALMBAIZE_KEY_BYTES], nonce[CALMBAIZE_NONCE_BYTES];
 static uint8_t header[200], message[MAX], parcel[MAX + TAG], output[MAX + TAG];
 static uint8_t start[CALMBAIZE_BLOCK_BYTES], steps[STEPS];
+static uint8_t store[CELLS * CELL], tail[CALMBAIZE_NONCE_TAIL_BYTES];
+/* Of sale n at n. */
+static struct record {
+    uint32_t amount;
+    uint16_t column;
+    uint8_t means, clock[CALMBAIZE_CLOCK_BYTES];
+} records[CELLS];
 static char tried[80];
 static unsigned long passed, failed;
 
@@ -169,6 +183,146 @@ static void all_counts(void)
                 jump(alpha, beta, gamma);
 }
 
+/* The sale's sealed record and tag; sales are numbered as the cells that they are taken into. */
+static uint8_t *sealed(uint32_t sale)
+{
+    return store + CELL * sale + SEALED;
+}
+
+/* The key, the record that is taken, and what is sealed in the cells of the first sales. */
+static void hide_sales(uint32_t sales)
+{
+    hide(key, sizeof key);
+    hide(records, sizeof records);
+    for (uint32_t sale = 1; sale <= sales; sale++)
+        hide(sealed(sale), RECORD + TAG);
+}
+
+static void define_sales(void)
+{
+    define(key, sizeof key);
+    define(records, sizeof records);
+    define(store, sizeof store);
+}
+
+static void store_format(void)
+{
+    hide(store, sizeof store);
+    unsigned before = VALGRIND_COUNT_ERRORS;
+    uint64_t answer = calmbaize_store_format(store, sizeof store);
+    unsigned errors = VALGRIND_COUNT_ERRORS - before;
+    define(store, sizeof store);
+    snprintf(tried, sizeof tried, "store_format");
+    count(answer, 0, errors, 0);
+}
+
+/* Where the first sales are there already. */
+static void store_take(uint32_t sale, uint32_t sales, uint64_t expected)
+{
+    struct record *record = &records[sale % CELLS];
+
+    hide_sales(sales);
+    unsigned before = VALGRIND_COUNT_ERRORS;
+    uint64_t answer = calmbaize_store_take(key, sizeof key, store, sizeof store, MACHINE, sale, tail,
+                                           record->amount, record->column, record->means,
+                                           record->clock);
+    unsigned errors = VALGRIND_COUNT_ERRORS - before;
+    define(&answer, sizeof answer);
+    define_sales();
+    snprintf(tried, sizeof tried, "store_take, sale %u", sale);
+    count(answer, expected, errors, 0);
+}
+
+/* Puts the sale back afterwards; opened is how many sales are opened. */
+static void store_cancel(uint32_t sale, uint64_t expected, unsigned opened)
+{
+    uint8_t kept[sizeof store];
+
+    memcpy(kept, store, sizeof store);
+    hide_sales(SALES);
+    unsigned before = VALGRIND_COUNT_ERRORS;
+    uint64_t answer =
+        calmbaize_store_cancel(key, sizeof key, store, sizeof store, MACHINE, sale);
+    unsigned errors = VALGRIND_COUNT_ERRORS - before;
+    define(&answer, sizeof answer);
+    define_sales();
+    memcpy(store, kept, sizeof store);
+    snprintf(tried, sizeof tried, "store_cancel, sale %u", sale);
+    count(answer, expected, errors, opened);
+}
+
+static void store_total(uint64_t expected, uint64_t wanted, unsigned opened)
+{
+    uint64_t total = 0;
+
+    hide_sales(SALES);
+    unsigned before = VALGRIND_COUNT_ERRORS;
+    uint64_t answer = calmbaize_store_total(key, sizeof key, store, sizeof store, &total);
+    unsigned errors = VALGRIND_COUNT_ERRORS - before;
+    define(&answer, sizeof answer);
+    define(&total, sizeof total);
+    define_sales();
+    snprintf(tried, sizeof tried, "store_total, %u sales opened", opened);
+    /* A wrong total is a wrong answer. */
+    count(total == wanted ? answer : UINT64_MAX, expected, errors, opened);
+}
+
+static void store_read(uint32_t sale, uint64_t expected)
+{
+    hide_sales(SALES);
+    unsigned before = VALGRIND_COUNT_ERRORS;
+    uint64_t answer = calmbaize_store_read(store, sizeof store, MACHINE, sale);
+    unsigned errors = VALGRIND_COUNT_ERRORS - before;
+    define(&answer, sizeof answer);
+    define_sales();
+    snprintf(tried, sizeof tried, "store_read, sale %u", sale);
+    count(answer, expected, errors, 0);
+}
+
+static uint64_t refusal(uint32_t number, uint32_t place)
+{
+    return (uint64_t)number << 32 | place;
+}
+
+/* Fills a store with sales of every means there is a rule for, and of others. Returns their coins. */
+static uint64_t all_takes(void)
+{
+    uint64_t coins = 0;
+
+    store_format();
+    fill((uint8_t *)records, sizeof records, 6);
+    for (uint32_t sale = 1; sale <= SALES; sale++) {
+        records[sale].means = (uint8_t)(sale % 4);
+        coins += records[sale].means == CALMBAIZE_MEANS_COIN ? records[sale].amount : 0;
+        store_take(sale, sale - 1, sale);
+        store_take(1, sale, refusal(CALMBAIZE_REFUSED_SALE_NUMBERS, 0));
+    }
+    store_take(CELLS, SALES, refusal(CALMBAIZE_REFUSED_STORE_FULL, 0));
+    return coins;
+}
+
+/* Each sale whole, and with the first and last bytes of its sealed record and tag changed. */
+static void all_sales(void)
+{
+    static const size_t places[] = {0, RECORD - 1, RECORD, RECORD + TAG - 1};
+    uint64_t coins = all_takes();
+
+    store_total(0, coins, SALES);
+    store_cancel(CELLS, refusal(CALMBAIZE_REFUSED_SALE_NUMBERS, 0), 0);
+    store_read(CELLS, refusal(CALMBAIZE_REFUSED_SALE_NUMBERS, 0));
+    for (uint32_t sale = 1; sale <= SALES; sale++) {
+        store_read(sale, CELL * sale + 3);
+        store_cancel(sale, records[sale].amount, 1);
+        for (size_t i = 0; i < COUNT(places); i++) {
+            sealed(sale)[places[i]] ^= 1;
+            store_cancel(sale, refusal(CALMBAIZE_REFUSED_TAG, sale), 1);
+            /* The last sale taken is the first in the chain. */
+            store_total(refusal(CALMBAIZE_REFUSED_TAG, sale), 0, CELLS - sale);
+            sealed(sale)[places[i]] ^= 1;
+        }
+    }
+}
+
 int main(int argc, char **argv)
 {
     unsigned allowed = argc > 1 ? (unsigned)atoi(argv[1]) : 0;
@@ -187,6 +341,7 @@ int main(int argc, char **argv)
             all_lengths(modes[m], round_counts[r], allowed);
     all_steps();
     all_counts();
+    all_sales();
     printf("%lu passed, %lu failed\n", passed, failed);
     return failed > 0;
 }

@@ -14,12 +14,15 @@
 #include "settings.h"
 
 enum { STACK = 1 << 20, PAINT = 0xa5, MAX = CALMBAIZE_MESSAGE_BYTES_MAX, TAG = CALMBAIZE_TAG_BYTES };
+enum { CELL = CALMBAIZE_CELL_BYTES, MACHINE = 7 };
 
 static uint8_t key[CALMBAIZE_KEY_BYTES], nonce[CALMBAIZE_NONCE_BYTES];
 static uint8_t header[CALMBAIZE_HEADER_BYTES_MAX], message[MAX], parcel[MAX + TAG];
 static uint8_t output[MAX + TAG], start[CALMBAIZE_BLOCK_BYTES], steps[600];
+static uint8_t store[CALMBAIZE_STORE_BYTES_MAX];
 static uint32_t mode, rounds;
-static size_t header_len, len;
+static size_t header_len, len, store_len;
+static int checks, passed;
 static unsigned long unexpected;
 static ucontext_t here, there;
 
@@ -67,6 +70,51 @@ static void jump(void)
 {
     expect(calmbaize_jump(start, sizeof start, 5, -5, -5, output, sizeof output), sizeof start);
     expect(calmbaize_jump(start, sizeof start, -5, 5, 5, output, sizeof output), sizeof start);
+}
+
+static void store_format(void)
+{
+    expect(calmbaize_store_format(store, store_len), 0);
+}
+
+/* Takes as many sales as the store holds, which are numbered as their cells, and one more. */
+static void store_take(void)
+{
+    static const uint8_t tail[CALMBAIZE_NONCE_TAIL_BYTES], hour[CALMBAIZE_CLOCK_BYTES];
+    uint32_t cells = (uint32_t)(store_len / CELL);
+
+    for (uint32_t cell = 1; cell <= cells; cell++)
+        expect(calmbaize_store_take(key, sizeof key, store, store_len, MACHINE, cell, tail, cell, 0,
+                                    CALMBAIZE_MEANS_COIN, hour),
+               cell < cells ? cell : (uint64_t)CALMBAIZE_REFUSED_STORE_FULL << 32);
+}
+
+/* Of the first sale taken, whose amount is 1: not where its tag is damaged, then where it is whole. */
+static void store_cancel(void)
+{
+    for (int damaged = 1; damaged >= 0; damaged--) {
+        store[2 * CELL - 1] ^= 1;
+        expect(calmbaize_store_cancel(key, sizeof key, store, store_len, MACHINE, 1),
+               damaged ? (uint64_t)CALMBAIZE_REFUSED_TAG << 32 | 1 : 1);
+    }
+}
+
+static void store_total(void)
+{
+    uint64_t total;
+
+    for (int damaged = 1; damaged >= 0; damaged--) {
+        store[2 * CELL - 1] ^= 1;
+        expect(calmbaize_store_total(key, sizeof key, store, store_len, &total),
+               damaged ? (uint64_t)CALMBAIZE_REFUSED_TAG << 32 | 1 : 0);
+    }
+}
+
+static void store_read(void)
+{
+    expect(calmbaize_store_read(store, store_len, MACHINE, 1), CELL + 3);
+    expect(calmbaize_store_read(store, store_len, MACHINE, 0),
+           (uint64_t)CALMBAIZE_REFUSED_SALE_NUMBERS << 32);
 }
 
 static size_t depth(void (*call)(void))
@@ -120,6 +168,24 @@ static size_t deepest_sealing(void (*call)(void))
     return deepest;
 }
 
+/* The deepest over stores of several lengths; what stands before it in the list prepares the store. */
+static size_t deepest_of_stores(void (*call)(void))
+{
+    static void (*const calls[])(void) = {store_format, store_take, store_total, store_read,
+                                          store_cancel};
+    static const size_t lengths[] = {2 * CELL, 3 * CELL, 65 * CELL, sizeof store};
+    size_t deepest = 0;
+
+    for (size_t i = 0; i < COUNT(lengths); i++) {
+        store_len = lengths[i];
+        for (size_t c = 0; calls[c] != call; c++)
+            calls[c]();
+        size_t found = depth(call);
+        deepest = found > deepest ? found : deepest;
+    }
+    return deepest;
+}
+
 /* How many of the settings 0 to 99 seal accepts: all of them must be among those tried. */
 static size_t accepted_settings(void)
 {
@@ -132,42 +198,54 @@ static size_t accepted_settings(void)
     return accepted;
 }
 
-static int check(const char *call, size_t measured, size_t floor, size_t stated)
+static void check(const char *call, size_t measured, size_t floor, size_t stated)
 {
     size_t bytes = measured > floor ? measured - floor : 0;
-    int passed = bytes <= stated;
+    int within = bytes <= stated;
 
-    printf("  %s: %zu bytes, stated %zu%s\n", call, bytes, stated, passed ? "" : ": too deep");
-    return passed;
+    printf("  %s: %zu bytes, stated %zu%s\n", call, bytes, stated, within ? "" : ": too deep");
+    checks++;
+    passed += within;
 }
 
 /* Every setting that is accepted is tried, and no call answers otherwise than it should. */
-static int check_answers(void)
+static void check_answers(void)
 {
     size_t accepted = accepted_settings(), tried = COUNT(modes) * COUNT(round_counts);
-    int passed = accepted == tried && unexpected == 0;
+    int right = accepted == tried && unexpected == 0;
 
-    if (!passed)
+    if (!right)
         printf("  answers: %zu settings tried of %zu accepted, %lu answers not as they should be\n",
                tried, accepted, unexpected);
-    return passed;
+    checks++;
+    passed += right;
+}
+
+static void check_stores(size_t floor)
+{
+    check("store_format", deepest_of_stores(store_format), floor,
+          CALMBAIZE_STORE_FORMAT_STACK_BYTES);
+    check("store_take", deepest_of_stores(store_take), floor, CALMBAIZE_STORE_TAKE_STACK_BYTES);
+    check("store_cancel", deepest_of_stores(store_cancel), floor,
+          CALMBAIZE_STORE_CANCEL_STACK_BYTES);
+    check("store_total", deepest_of_stores(store_total), floor, CALMBAIZE_STORE_TOTAL_STACK_BYTES);
+    check("store_read", deepest_of_stores(store_read), floor, CALMBAIZE_STORE_READ_STACK_BYTES);
 }
 
 int main(void)
 {
     size_t floor = depth(nothing), opened, refused;
-    int passed = 0;
 
     for (size_t i = 0; i < sizeof steps; i++)
         steps[i] = (uint8_t)(i % 6 + 1);
-    depth(walk);
     opened = deepest_sealing(open);
     refused = deepest_sealing(open_refused);
-    passed += check("seal", deepest_sealing(seal), floor, CALMBAIZE_SEAL_STACK_BYTES);
-    passed += check("open", opened > refused ? opened : refused, floor, CALMBAIZE_OPEN_STACK_BYTES);
-    passed += check("walk", depth(walk), floor, CALMBAIZE_WALK_STACK_BYTES);
-    passed += check("jump", depth(jump), floor, CALMBAIZE_JUMP_STACK_BYTES);
-    passed += check_answers();
-    printf("%d passed, %d failed\n", passed, 5 - passed);
-    return passed < 5;
+    check("seal", deepest_sealing(seal), floor, CALMBAIZE_SEAL_STACK_BYTES);
+    check("open", opened > refused ? opened : refused, floor, CALMBAIZE_OPEN_STACK_BYTES);
+    check("walk", depth(walk), floor, CALMBAIZE_WALK_STACK_BYTES);
+    check("jump", depth(jump), floor, CALMBAIZE_JUMP_STACK_BYTES);
+    check_stores(floor);
+    check_answers();
+    printf("%d passed, %d failed\n", passed, checks - passed);
+    return passed < checks;
 }

@@ -3,23 +3,32 @@
 #
 # usage: stand-in.sh FOLDER [SED-SCRIPT]
 #
-# FOLDER receives what make puts into dist/. A sed script plants a fault in the source first.
+# FOLDER receives what make puts into dist/. A sed script plants a fault in the sources first.
 set -eu
 
 root=$(cd "$(dirname "$0")/.." && pwd)
 folder=$1
 fault=${2:-}
+sources=$folder/stand-in
 
-mkdir -p "$folder"
-sed "$fault" "$root/c/baseline.c" > "$folder/stand-in.c"
-if [ -n "$fault" ] && cmp -s "$folder/stand-in.c" "$root/c/baseline.c"; then
+rm -rf "$sources"
+mkdir -p "$sources"
+for file in "$root"/c/*; do
+    sed "$fault" "$file" > "$sources/${file##*/}"
+done
+if [ -n "$fault" ] && diff -r "$root/c" "$sources" > /dev/null; then
     echo "stand-in: the fault '$fault' changes nothing" >&2
     exit 1
 fi
-${CC:-cc} -std=c99 -O3 -fPIC -I "$root/c" \
-    -Dbaseline_seal=calmbaize_seal -Dbaseline_open=calmbaize_open \
-    -Dbaseline_walk=calmbaize_walk -Dbaseline_jump=calmbaize_jump \
-    -c "$folder/stand-in.c" -o "$folder/stand-in.o"
+# Each call goes under the library's name.
+names=$(sed -n 's/^uint64_t \(baseline\)\(_[a-z_]*\)(.*/-D\1\2=calmbaize\2/p' "$root/c/baseline.h")
+for source in "$sources"/*.c; do
+    # Names are words.
+    # shellcheck disable=SC2086
+    ${CC:-cc} -std=c99 -O3 -fPIC $names -c "$source" -o "${source%.c}.o"
+done
+# One object, so that what one source has of another is no name from outside.
+${CC:-cc} -r -o "$folder/stand-in.o" "$sources"/*.o
 # The library exports no permutation.
 objcopy --localize-symbol=baseline_permute "$folder/stand-in.o"
 rm -f "$folder/stand-in.a"

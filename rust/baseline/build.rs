@@ -1,26 +1,28 @@
-//! Compiles `c/baseline.c` with the system's C compiler.
+//! Compiles the scalar C version with the system's C compiler.
 
 use std::env;
 use std::ffi::OsString;
 use std::path::{Path, PathBuf};
 use std::process::Command;
 
+const SOURCES: [&str; 2] = ["baseline.c", "store.c"];
+
 fn main() {
-    let source = Path::new(&variable("CARGO_MANIFEST_DIR")).join("../../c");
+    let folder = Path::new(&variable("CARGO_MANIFEST_DIR")).join("../../c");
     let out = PathBuf::from(variable("OUT_DIR"));
-    for file in ["baseline.c", "baseline.h"] {
-        println!("cargo::rerun-if-changed={}", source.join(file).display());
-    }
+    println!("cargo::rerun-if-changed={}", folder.display());
     println!("cargo::rerun-if-env-changed=CC");
     let compiler = env::var_os("CC").unwrap_or_else(|| "cc".into());
-    let object = out.join("baseline.o");
-    let mut compile = Command::new(compiler);
-    compile.args(["-std=c99", "-O3", "-fPIC", "-c", "-o"]);
-    run(compile.arg(&object).arg(source.join("baseline.c")));
-    run(Command::new("ar")
-        .arg("crs")
-        .arg(out.join("libbaseline.a"))
-        .arg(&object));
+    let mut archive = Command::new("ar");
+    archive.arg("crs").arg(out.join("libbaseline.a"));
+    for source in SOURCES {
+        let object = out.join(source).with_extension("o");
+        let mut compile = Command::new(&compiler);
+        compile.args(["-std=c99", "-O3", "-fPIC", "-c", "-o"]);
+        run(compile.arg(&object).arg(folder.join(source)));
+        archive.arg(object);
+    }
+    run(&mut archive);
     println!("cargo::rustc-link-search=native={}", out.display());
     println!("cargo::rustc-link-lib=static=baseline");
 }

@@ -73,6 +73,46 @@ extern "C" {
         output_len: usize,
     ) -> u64;
 
+    /// Formats a store; the arguments are those of `calmbaize_store_format`.
+    pub fn baseline_store_format(store: *mut u8, store_len: usize) -> u64;
+
+    /// Takes a sale; the arguments are those of `calmbaize_store_take`.
+    pub fn baseline_store_take(
+        key: *const u8,
+        key_len: usize,
+        store: *mut u8,
+        store_len: usize,
+        machine: u32,
+        sale: u32,
+        nonce_tail: *const u8,
+        amount: u32,
+        column: u16,
+        means: u8,
+        clock: *const u8,
+    ) -> u64;
+
+    /// Cancels a sale; the arguments are those of `calmbaize_store_cancel`.
+    pub fn baseline_store_cancel(
+        key: *const u8,
+        key_len: usize,
+        store: *mut u8,
+        store_len: usize,
+        machine: u32,
+        sale: u32,
+    ) -> u64;
+
+    /// Adds up the coins; the arguments are those of `calmbaize_store_total`.
+    pub fn baseline_store_total(
+        key: *const u8,
+        key_len: usize,
+        store: *const u8,
+        store_len: usize,
+        total: *mut u64,
+    ) -> u64;
+
+    /// Finds a sale; the arguments are those of `calmbaize_store_read`.
+    pub fn baseline_store_read(store: *const u8, store_len: usize, machine: u32, sale: u32) -> u64;
+
     /// The BLAKE2b permutation, any number of rounds.
     pub fn baseline_permute(rounds: u32, s: *mut [u64; 16]);
 }

@@ -1,11 +1,11 @@
 //! What is measured: implementations, settings, calls and lengths.
 
+use crate::measure::Case;
 use crate::sodium::Sodium;
 use crate::table::grouped;
 use baseline::Sealing;
 use reference::{MRO, OPP};
 use std::fmt;
-use std::hint::black_box;
 
 /// Message lengths in bytes. The first is a sale record.
 pub const LENGTHS: [usize; 5] = [13, 128, 1024, 4096, 65_536];
@@ -99,48 +99,34 @@ impl fmt::Display for Key {
 /// from 2^32 on.
 pub const TAG_DIFFERS: u64 = 9 << 32;
 
-/// A case: its name, the call it measures and what that has to answer.
-pub struct Case {
-    pub key: Key,
-    call: Box<dyn FnMut() -> u64>,
-    wanted: u64,
-}
-
-impl Case {
-    /// The case of `key`. `run` takes true to seal and false to open, the input and the output.
-    pub fn new(
-        key: Key,
-        tag_len: usize,
-        run: impl Fn(bool, &[u8], &mut [u8]) -> u64 + 'static,
-    ) -> Self {
-        let (message, mut parcel) = (vec![0x5a; key.len], vec![0; key.len + tag_len]);
-        run(true, &message, &mut parcel);
-        if key.operation == Operation::Refuse {
-            parcel[key.len] ^= 1;
-        }
-        let sealing = key.operation == Operation::Seal;
-        let wanted = match key.operation {
-            Operation::Seal => parcel.len() as u64,
-            Operation::Open => message.len() as u64,
-            Operation::Refuse => TAG_DIFFERS,
-        };
-        let (input, mut output) = if sealing {
-            (message, parcel)
-        } else {
-            (parcel, message)
-        };
-        let call = Box::new(move || run(sealing, &input, &mut output));
-        Self { key, call, wanted }
+/// The case of `key`. `run` takes true to seal and false to open, the input and the output.
+pub fn case(
+    key: Key,
+    tag_len: usize,
+    run: impl Fn(bool, &[u8], &mut [u8]) -> u64 + 'static,
+) -> Case<Key> {
+    let (message, mut parcel) = (vec![0x5a; key.len], vec![0; key.len + tag_len]);
+    run(true, &message, &mut parcel);
+    if key.operation == Operation::Refuse {
+        parcel[key.len] ^= 1;
     }
-
-    /// Makes the call, and tells whether it answered what it has to.
-    pub fn make(&mut self) -> bool {
-        black_box((self.call)()) == self.wanted
-    }
+    let sealing = key.operation == Operation::Seal;
+    let wanted = match key.operation {
+        Operation::Seal => parcel.len() as u64,
+        Operation::Open => message.len() as u64,
+        Operation::Refuse => TAG_DIFFERS,
+    };
+    let (input, mut output) = if sealing {
+        (message, parcel)
+    } else {
+        (parcel, message)
+    };
+    let name = format!("{key}, {}", key.implementation);
+    Case::new(key, name, wanted, move || run(sealing, &input, &mut output))
 }
 
 /// All cases, the empty message included. Those that are compared stand side by side.
-pub fn all(sodium: Option<&Sodium>) -> Vec<Case> {
+pub fn all(sodium: Option<&Sodium>) -> Vec<Case<Key>> {
     let mut cases = Vec::new();
     for operation in OPERATIONS {
         for len in [0].into_iter().chain(LENGTHS) {
@@ -184,7 +170,7 @@ impl SealOpen {
         ]
     }
 
-    fn case(self, setting: Setting, operation: Operation, len: usize) -> Case {
+    fn case(self, setting: Setting, operation: Operation, len: usize) -> Case<Key> {
         let implementation = match self {
             Self::Foreign(implementation, ..) => implementation,
             Self::Reference => Implementation::Reference,
@@ -196,7 +182,7 @@ impl SealOpen {
             operation,
             len,
         };
-        Case::new(key, 32, move |seal, input, output| {
+        case(key, 32, move |seal, input, output| {
             self.run(settings, seal, input, output)
         })
     }

@@ -1,5 +1,5 @@
 //! Cycles per byte and per call: the library beside the second implementation, a version in scalar
-//! C, libsodium's ciphers and the paper's figures.
+//! C, libsodium's ciphers and the paper's figures; and the calls of the store beside the scalar C.
 
 mod cases;
 mod counter;
@@ -8,6 +8,7 @@ mod plot;
 mod ratios;
 mod report;
 mod sodium;
+mod stores;
 mod table;
 
 use measure::Samples;
@@ -87,28 +88,31 @@ fn run(options: Options) -> Result<Vec<String>, String> {
     if sodium.is_none() {
         eprintln!("bench: no libsodium found: install libsodium-dev for its rows");
     }
-    let samples = match Samples::take(&mut cases::all(sodium.as_ref()), options.batches) {
-        Ok(samples) => samples,
-        Err(fault) => return Ok(vec![fault]),
+    let batches = options.batches;
+    let samples = Samples::take(&mut cases::all(sodium.as_ref()), batches);
+    let stores = Samples::take(&mut stores::all(), batches);
+    let (samples, stores) = match (samples, stores) {
+        (Ok(samples), Ok(stores)) => (samples, stores),
+        (samples, stores) => return Ok(samples.err().into_iter().chain(stores.err()).collect()),
     };
-    if options.batches == 0 {
+    if batches == 0 {
         return Ok(Vec::new());
     }
     let setup = Setup {
         date: date(),
         processor: processor(),
         gigahertz: counter::speed(),
-        batches: options.batches,
+        batches,
         gate: options.gate,
     };
-    let page = report::page(&setup, &samples);
+    let ratios = Ratio::all(&samples, &stores);
+    let page = report::page(&setup, &samples, &stores, &ratios);
     print!("{page}");
     if let Some(docs) = options.docs {
         write(&docs, "BENCHMARKS.md", &page)?;
         write(&docs, "benchmarks.svg", &plot::svg(&samples))?;
     }
-    let ratios = Ratio::all();
-    Ok(ratios.iter().filter_map(|r| r.fault(&samples)).collect())
+    Ok(ratios.iter().filter_map(Ratio::fault).collect())
 }
 
 fn write(folder: &Path, name: &str, text: &str) -> Result<(), String> {

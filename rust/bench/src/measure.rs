@@ -1,27 +1,53 @@
 //! Timing the cases in turn.
 
-use crate::cases::{Case, Key};
 use crate::counter::count;
+use std::hint::black_box;
 use std::time::Instant;
 
 /// A batch of calls takes about this many cycles or more, well above the cost of the two readings.
 const BATCH_CYCLES: u64 = 100_000;
 
-/// The cycles per call of every case, batch by batch.
-pub struct Samples {
-    series: Vec<(Key, Vec<f64>)>,
+/// A case: its key, its name, the call it measures and what that has to answer.
+pub struct Case<K> {
+    key: K,
+    name: String,
+    wanted: u64,
+    call: Box<dyn FnMut() -> u64>,
 }
 
-impl Samples {
+impl<K> Case<K> {
+    /// The case of `key`. The name is said where the call does not answer what is wanted.
+    pub fn new(key: K, name: String, wanted: u64, call: impl FnMut() -> u64 + 'static) -> Self {
+        let call = Box::new(call);
+        Self {
+            key,
+            name,
+            wanted,
+            call,
+        }
+    }
+
+    /// Makes the call, and tells whether it answered what it has to.
+    fn make(&mut self) -> bool {
+        black_box((self.call)()) == self.wanted
+    }
+}
+
+/// The cycles per call of every case, batch by batch.
+pub struct Samples<K> {
+    series: Vec<(K, Vec<f64>)>,
+}
+
+impl<K: Copy + PartialEq> Samples<K> {
     /// Times `batches` batches of every case. The cases take turns, so that what slows the machine
     /// for a while slows them all.
     ///
     /// # Errors
     ///
     /// The case of a call that does not answer what it has to.
-    pub fn take(cases: &mut [Case], batches: usize) -> Result<Self, String> {
+    pub fn take(cases: &mut [Case<K>], batches: usize) -> Result<Self, String> {
         let sizes: Vec<u64> = cases.iter_mut().map(batch_size).collect::<Result<_, _>>()?;
-        let mut series: Vec<(Key, Vec<f64>)> =
+        let mut series: Vec<(K, Vec<f64>)> =
             cases.iter().map(|case| (case.key, Vec::new())).collect();
         let begin = Instant::now();
         for batch in 1..=batches {
@@ -36,24 +62,24 @@ impl Samples {
         Ok(Self { series })
     }
 
-    fn of(&self, key: Key) -> Option<&[f64]> {
+    fn of(&self, key: K) -> Option<&[f64]> {
         let found = self.series.iter().find(|(k, _)| *k == key);
         found.map(|(_, samples)| samples.as_slice())
     }
 
     /// The median cycles per call.
-    pub fn cycles(&self, key: Key) -> Option<f64> {
+    pub fn cycles(&self, key: K) -> Option<f64> {
         self.of(key).map(|samples| median(samples.to_vec()))
     }
 
     /// The median, over the batches, of one case's time by another's.
-    pub fn ratio(&self, key: Key, by: Key) -> Option<f64> {
+    pub fn ratio(&self, key: K, by: K) -> Option<f64> {
         let pairs = self.of(key)?.iter().zip(self.of(by)?);
         Some(median(pairs.map(|(a, b)| a / b).collect()))
     }
 
     /// The median of one case's time by another's, both without that of a third.
-    pub fn ratio_above(&self, key: Key, by: Key, floor: Key) -> Option<f64> {
+    pub fn ratio_above(&self, key: K, by: K, floor: K) -> Option<f64> {
         let triples = self.of(key)?.iter().zip(self.of(by)?).zip(self.of(floor)?);
         Some(median(
             triples
@@ -63,7 +89,7 @@ impl Samples {
     }
 }
 
-fn batch_size(case: &mut Case) -> Result<u64, String> {
+fn batch_size<K>(case: &mut Case<K>) -> Result<u64, String> {
     let mut cycles = u64::MAX;
     for _ in 0..5 {
         cycles = cycles.min(time(case, 1)?);
@@ -72,17 +98,17 @@ fn batch_size(case: &mut Case) -> Result<u64, String> {
 }
 
 /// The cycles of `calls` calls, after one that brings code and buffers into the caches.
-fn time(case: &mut Case, calls: u64) -> Result<u64, String> {
+fn time<K>(case: &mut Case<K>, calls: u64) -> Result<u64, String> {
     let mut sound = case.make();
     let begin = count();
     for _ in 0..calls {
         sound &= case.make();
     }
     let cycles = count() - begin;
-    let (key, by) = (case.key, case.key.implementation);
+    let name = &case.name;
     sound
         .then_some(cycles)
-        .ok_or_else(|| format!("{key}, {by}: a timed call does not answer what it has to"))
+        .ok_or_else(|| format!("{name}: a timed call does not answer what it has to"))
 }
 
 fn median(mut values: Vec<f64>) -> f64 {

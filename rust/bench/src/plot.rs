@@ -27,7 +27,7 @@ struct Line {
 }
 
 /// The picture of sealing, as SVG.
-pub fn svg(samples: &Samples) -> String {
+pub fn svg(samples: &Samples<Key>) -> String {
     let mut svg = format!(
         "<svg xmlns=\"http://www.w3.org/2000/svg\" viewBox=\"0 0 {WIDTH} {HEIGHT}\" \
          font-family=\"sans-serif\" font-size=\"13\">\n\
@@ -48,7 +48,7 @@ pub fn svg(samples: &Samples) -> String {
     svg
 }
 
-fn lines(samples: &Samples) -> Vec<Line> {
+fn lines(samples: &Samples<Key>) -> Vec<Line> {
     let mut lines = Vec::new();
     let mut add = |implementation: Implementation, setting, colour, dashed| {
         let name = match setting {
@@ -75,7 +75,11 @@ fn lines(samples: &Samples) -> Vec<Line> {
     lines
 }
 
-fn points(samples: &Samples, implementation: Implementation, setting: Setting) -> Vec<(f64, f64)> {
+fn points(
+    samples: &Samples<Key>,
+    implementation: Implementation,
+    setting: Setting,
+) -> Vec<(f64, f64)> {
     let operation = Operation::Seal;
     let cycles = |len| {
         samples.cycles(Key {

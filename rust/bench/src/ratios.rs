@@ -3,6 +3,7 @@
 use crate::cases::Operation::{Open, Refuse, Seal};
 use crate::cases::{settings, Implementation, Key, Operation, Setting, SALE};
 use crate::measure::Samples;
+use crate::stores::{StoreKey, CALLS, CELLS};
 use std::fmt;
 
 /// What a call of the library is held against.
@@ -50,16 +51,19 @@ const BOUNDS: [Bound; 3] = [
 ];
 
 impl Bound {
-    fn ratios(&self) -> Vec<Ratio> {
-        let ratio = |setting, operation| Ratio {
-            key: Key {
+    fn ratios(&self, samples: &Samples<Key>) -> Vec<Ratio> {
+        let ratio = |setting, operation| {
+            let key = Key {
                 implementation: Implementation::Library,
                 setting,
                 operation,
                 len: self.len,
-            },
-            by: self.by,
-            bound: self.most,
+            };
+            Ratio {
+                name: format!("{key}, by {}", self.by),
+                measured: samples.ratio(key, self.by.key(key)),
+                bound: self.most,
+            }
         };
         let pairs = (self.settings)().into_iter().flat_map(|setting| {
             let operations = self.operations.into_iter();
@@ -71,48 +75,94 @@ impl Bound {
     }
 }
 
+impl By {
+    /// What the case of `key` is held against.
+    fn key(self, key: Key) -> Key {
+        match self {
+            Self::ScalarC => Key {
+                implementation: Implementation::ScalarC,
+                ..key
+            },
+            Self::Seal => Key {
+                operation: Seal,
+                ..key
+            },
+            Self::XChaCha => Key {
+                implementation: Implementation::XChaCha,
+                setting: None,
+                ..key
+            },
+        }
+    }
+}
+
+impl fmt::Display for By {
+    fn fmt(&self, f: &mut fmt::Formatter<'_>) -> fmt::Result {
+        match self {
+            Self::ScalarC => Implementation::ScalarC.fmt(f),
+            Self::Seal => Seal.fmt(f),
+            Self::XChaCha => Implementation::XChaCha.fmt(f),
+        }
+    }
+}
+
+/// The most that a call of the store may take of the scalar C version's time.
+const STORE_BY_SCALAR_C: f64 = 1.2;
+/// How much longer a call may take where there are eight times the cells: linear and a tenth.
+const STORE_GROWTH: f64 = 8.8;
+
+/// Each call of the library at each number of cells, and its growth to eight times as many.
+fn store_ratios(samples: &Samples<StoreKey>) -> Vec<Ratio> {
+    let mut ratios = Vec::new();
+    let mut add = |key: StoreKey, other: StoreKey, by: String, bound| {
+        ratios.push(Ratio {
+            name: format!("{key}, by {by}"),
+            measured: samples.ratio(key, other),
+            bound,
+        });
+    };
+    let implementation = Implementation::ScalarC;
+    for call in CALLS {
+        for key in CELLS.map(|cells| StoreKey::library(call, cells)) {
+            let other = StoreKey {
+                implementation,
+                ..key
+            };
+            add(key, other, implementation.to_string(), STORE_BY_SCALAR_C);
+        }
+    }
+    for call in CALLS {
+        let [few, many] = [128, 1024].map(|cells| StoreKey::library(call, cells));
+        add(many, few, format!("{} cells", few.cells), STORE_GROWTH);
+    }
+    ratios
+}
+
 /// A ratio of two cases' times. It is taken batch by batch, and its median counts.
 pub struct Ratio {
-    key: Key,
-    by: By,
+    /// What is held against what.
+    pub name: String,
+    /// What it is, where both cases were measured.
+    pub measured: Option<f64>,
     /// The most that it may be.
     pub bound: f64,
 }
 
 impl Ratio {
     /// All that have a bound. Without the archive there is nothing to hold against one.
-    pub fn all() -> Vec<Self> {
+    pub fn all(samples: &Samples<Key>, stores: &Samples<StoreKey>) -> Vec<Self> {
         if cfg!(feature = "archive") {
-            BOUNDS.iter().flat_map(Bound::ratios).collect()
+            let sealing = BOUNDS.iter().flat_map(|bound| bound.ratios(samples));
+            sealing.chain(store_ratios(stores)).collect()
         } else {
             Vec::new()
         }
     }
 
-    /// What it is, where both cases were measured.
-    pub fn measured(&self, samples: &Samples) -> Option<f64> {
-        let by = match self.by {
-            By::ScalarC => Key {
-                implementation: Implementation::ScalarC,
-                ..self.key
-            },
-            By::Seal => Key {
-                operation: Seal,
-                ..self.key
-            },
-            By::XChaCha => Key {
-                implementation: Implementation::XChaCha,
-                setting: None,
-                ..self.key
-            },
-        };
-        samples.ratio(self.key, by)
-    }
-
     /// What is wrong with it, if anything is.
-    pub fn fault(&self, samples: &Samples) -> Option<String> {
-        let fault = fault(self.measured(samples), self.bound)?;
-        Some(format!("{self}: {fault}"))
+    pub fn fault(&self) -> Option<String> {
+        let fault = fault(self.measured, self.bound)?;
+        Some(format!("{}: {fault}", self.name))
     }
 }
 
@@ -122,17 +172,6 @@ fn fault(ratio: Option<f64>, bound: f64) -> Option<String> {
         Some(ratio) if ratio <= bound => None,
         Some(ratio) => Some(format!("{ratio:.3} is above the bound of {bound:.2}")),
         None => Some("not measured".into()),
-    }
-}
-
-impl fmt::Display for Ratio {
-    fn fmt(&self, f: &mut fmt::Formatter<'_>) -> fmt::Result {
-        write!(f, "{}, by ", self.key)?;
-        match self.by {
-            By::ScalarC => Implementation::ScalarC.fmt(f),
-            By::Seal => Seal.fmt(f),
-            By::XChaCha => Implementation::XChaCha.fmt(f),
-        }
     }
 }
 

@@ -4,6 +4,7 @@ use crate::cases::{setting_name, settings, Implementation, Key, Operation, LENGT
 use crate::counter;
 use crate::measure::Samples;
 use crate::ratios::Ratio;
+use crate::stores::{StoreKey, CALLS, CELLS};
 use crate::table::{grouped, Table};
 use std::fmt::Write;
 
@@ -13,6 +14,13 @@ const CONSTRUCTION: [Implementation; 3] = [
     Implementation::Reference,
 ];
 const SODIUM: [Implementation; 2] = [Implementation::XChaCha, Implementation::AesGcm];
+
+/// What stands below the figures of the store.
+const STORES: &str =
+    "Half of the cells are sales. Cancel and read are of the sale that is last in \
+    its chain. The cells that a call changes are put back before the next, which is timed with \
+    it. 1,024 cells are 64 KiB: whether the processor's first cache holds them shows in the \
+    growth.\n\n";
 
 /// What stands below the ratios.
 const BOUNDS: &str = "The bounds are what this project asks of itself: `make bench` fails where a \
@@ -33,23 +41,24 @@ pub struct Setup {
 }
 
 /// The page, as Markdown.
-pub fn page(setup: &Setup, samples: &Samples) -> String {
-    let mut page = format!(
-        "# Benchmarks\n\n\
-         Measured on {} on an {} by `make bench`. Cycles are those of {}, {:.2} GHz. Each figure is the median of {} batches of calls; the implementations take \
-         turns batch by batch. Headers are empty.\n\n\
-         ![Cycles per byte over length](benchmarks.svg)\n\n",
-        setup.date,
-        setup.processor,
-        counter::NAME,
-        setup.gigahertz,
-        setup.batches,
-    );
+pub fn page(
+    setup: &Setup,
+    samples: &Samples<Key>,
+    stores: &Samples<StoreKey>,
+    ratios: &[Ratio],
+) -> String {
+    let mut page = heading(setup);
     let per_byte = |cycles: f64, len: usize| format!("{:.2}", cycles / len as f64);
     let per_call = |cycles: f64, _: usize| grouped(cycles.round() as usize);
     section(&mut page, "Cycles per byte", &figures(samples, per_byte));
     section(&mut page, "Cycles per call", &figures(samples, per_call));
-    section(&mut page, "Ratios", &ratios(samples));
+    section(
+        &mut page,
+        "Cycles per call of the store, over its cells",
+        &store_figures(stores),
+    );
+    page.push_str(STORES);
+    section(&mut page, "Ratios", &ratio_table(ratios));
     page.push_str(BOUNDS);
     section(
         &mut page,
@@ -63,13 +72,23 @@ pub fn page(setup: &Setup, samples: &Samples) -> String {
         &paper(),
     );
     if !setup.gate.is_empty() {
-        let mut table = Table::new(1, &["crate", "seconds"]);
-        for (name, seconds) in &setup.gate {
-            table.row(vec![name.clone(), seconds.clone()]);
-        }
-        section(&mut page, "The gate's time by crate", &table);
+        section(&mut page, "The gate's time by crate", &gate(&setup.gate));
     }
     page
+}
+
+fn heading(setup: &Setup) -> String {
+    format!(
+        "# Benchmarks\n\n\
+         Measured on {} on an {} by `make bench`. Cycles are those of {}, {:.2} GHz. Each figure is the median of {} batches of calls; the implementations take \
+         turns batch by batch. Headers are empty.\n\n\
+         ![Cycles per byte over length](benchmarks.svg)\n\n",
+        setup.date,
+        setup.processor,
+        counter::NAME,
+        setup.gigahertz,
+        setup.batches,
+    )
 }
 
 fn section(page: &mut String, title: &str, table: &Table) {
@@ -77,7 +96,7 @@ fn section(page: &mut String, title: &str, table: &Table) {
 }
 
 /// Every case, one row for all its lengths.
-fn figures(samples: &Samples, figure: impl Fn(f64, usize) -> String) -> Table {
+fn figures(samples: &Samples<Key>, figure: impl Fn(f64, usize) -> String) -> Table {
     let lengths = LENGTHS.map(grouped);
     let mut heading = vec!["", "call", "implementation"];
     heading.extend(lengths.iter().map(String::as_str));
@@ -117,21 +136,49 @@ fn names(key: Key) -> [String; 3] {
     ]
 }
 
+/// Every call of the store, one row for all numbers of cells.
+fn store_figures(samples: &Samples<StoreKey>) -> Table {
+    let cells = CELLS.map(grouped);
+    let mut heading = vec!["call", "implementation"];
+    heading.extend(cells.iter().map(String::as_str));
+    let mut table = Table::new(2, &heading);
+    for call in CALLS {
+        for implementation in [Implementation::Library, Implementation::ScalarC] {
+            let cycles = CELLS.map(|cells| {
+                samples.cycles(StoreKey {
+                    implementation,
+                    call,
+                    cells,
+                })
+            });
+            let cells = cycles.iter().flatten();
+            let cells: Vec<String> = cells
+                .map(|cycles| grouped(cycles.round() as usize))
+                .collect();
+            if cells.len() == CELLS.len() {
+                let names = [call.to_string(), implementation.to_string()];
+                table.row(names.into_iter().chain(cells).collect());
+            }
+        }
+    }
+    table
+}
+
 /// The ratios that have a bound.
-fn ratios(samples: &Samples) -> Table {
+fn ratio_table(ratios: &[Ratio]) -> Table {
     let mut table = Table::new(1, &["", "ratio", "bound"]);
-    for ratio in Ratio::all() {
-        let measured = ratio.measured(samples);
+    for ratio in ratios {
+        let measured = ratio.measured;
         let measured = measured.map_or("none".into(), |ratio| format!("{ratio:.3}"));
         let bound = format!("{:.2}", ratio.bound);
-        table.row(vec![ratio.to_string(), measured, bound]);
+        table.row(vec![ratio.name.clone(), measured, bound]);
     }
     table
 }
 
 /// Sixteen times the bytes take at most sixteen times as long, and just that where what an empty
 /// message costs is left out.
-fn growth(samples: &Samples) -> Table {
+fn growth(samples: &Samples<Key>) -> Table {
     let heading = [
         "",
         "call",
@@ -194,6 +241,15 @@ fn paper() -> Table {
         ],
     ] {
         table.row(row.map(String::from).to_vec());
+    }
+    table
+}
+
+/// The seconds of each crate.
+fn gate(times: &[(String, String)]) -> Table {
+    let mut table = Table::new(1, &["crate", "seconds"]);
+    for (name, seconds) in times {
+        table.row(vec![name.clone(), seconds.clone()]);
     }
     table
 }

@@ -1,6 +1,7 @@
 //! libsodium, loaded when the program runs, so that it builds without it.
 
-use crate::cases::{Case, Implementation, Key, Operation, KEY, NONCE, TAG_DIFFERS};
+use crate::cases::{case, Implementation, Key, Operation, KEY, NONCE, TAG_DIFFERS};
+use crate::measure::Case;
 use std::ffi::{c_char, c_int, c_uchar, c_ulonglong, c_void, CStr};
 use std::ptr::{null, null_mut};
 
@@ -84,7 +85,7 @@ impl Sodium {
     }
 
     /// The cases of libsodium's ciphers.
-    pub fn cases(&self, operation: Operation, len: usize) -> Vec<Case> {
+    pub fn cases(&self, operation: Operation, len: usize) -> Vec<Case<Key>> {
         let cases = self.aeads.iter().map(|aead| aead.case(operation, len));
         cases.collect()
     }
@@ -117,14 +118,14 @@ fn aead(
 }
 
 impl Aead {
-    fn case(self, operation: Operation, len: usize) -> Case {
+    fn case(self, operation: Operation, len: usize) -> Case<Key> {
         let key = Key {
             implementation: self.implementation,
             setting: None,
             operation,
             len,
         };
-        Case::new(key, TAG_LEN, move |seal, input, output| {
+        case(key, TAG_LEN, move |seal, input, output| {
             if seal {
                 self.encrypt(input, output)
             } else {

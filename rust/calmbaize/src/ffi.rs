@@ -1,6 +1,6 @@
 //! The C interface as `calmbaize.h` declares it.
 //!
-//! Pointers may be null where the length is 0. The output must not overlap another buffer.
+//! Pointers may be null where the length is 0. What a call writes must not overlap another buffer.
 
 use crate::Refusal;
 
@@ -57,6 +57,50 @@ extern "C" {
         output: *mut u8,
         output_len: usize,
     ) -> u64;
+
+    /// See [`slices::store::format`](crate::slices::store::format).
+    pub fn calmbaize_store_format(store: *mut u8, store_len: usize) -> u64;
+
+    /// See [`slices::store::take`](crate::slices::store::take). `nonce_tail` has
+    /// [`NONCE_TAIL_LEN`](crate::NONCE_TAIL_LEN) bytes and `clock`
+    /// [`CLOCK_LEN`](crate::CLOCK_LEN).
+    pub fn calmbaize_store_take(
+        key: *const u8,
+        key_len: usize,
+        store: *mut u8,
+        store_len: usize,
+        machine: u32,
+        sale: u32,
+        nonce_tail: *const u8,
+        amount: u32,
+        column: u16,
+        means: u8,
+        clock: *const u8,
+    ) -> u64;
+
+    /// See [`slices::store::cancel`](crate::slices::store::cancel).
+    pub fn calmbaize_store_cancel(
+        key: *const u8,
+        key_len: usize,
+        store: *mut u8,
+        store_len: usize,
+        machine: u32,
+        sale: u32,
+    ) -> u64;
+
+    /// See [`slices::store::total`](crate::slices::store::total). Where refused, `*total` is
+    /// unchanged.
+    pub fn calmbaize_store_total(
+        key: *const u8,
+        key_len: usize,
+        store: *const u8,
+        store_len: usize,
+        total: *mut u64,
+    ) -> u64;
+
+    /// See [`slices::store::read`](crate::slices::store::read).
+    pub fn calmbaize_store_read(store: *const u8, store_len: usize, machine: u32, sale: u32)
+        -> u64;
 }
 
 /// Takes an answer apart: the value of a success, such as the bytes written, or the refusal.

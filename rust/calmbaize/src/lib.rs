@@ -6,7 +6,8 @@
 //! [`Aead`] holds mode, round count and key. [`Aead::seal`] turns a message into a parcel, the
 //! ciphertext and then a tag of 32 bytes; [`Aead::open`] turns a parcel back into its message or
 //! refuses it. A header is authenticated with the message and not sent. [`walk()`] and [`jump()`]
-//! step the masks that the construction is built on; a mask is as secret as the key.
+//! step the masks that the construction is built on; a mask is as secret as the key. [`Store`]
+//! keeps sealed sales in a lent buffer.
 //!
 //! | Mode | Repeated nonce | Passes over the message |
 //! |---|---|---|
@@ -43,14 +44,18 @@ pub mod ffi;
 mod key;
 mod masks;
 mod refusal;
+mod sale;
 mod settings;
 pub mod slices;
+mod store;
 
 pub use aead::{Aead, Header};
 pub use key::{Key, Nonce};
 pub use masks::{jump, walk, Step};
 pub use refusal::{Ground, Refusal};
+pub use sale::{open_sale, sale_numbers, Sale};
 pub use settings::{Mode, Rounds};
+pub use store::{Sales, Store};
 
 /// Bytes of a key.
 pub const KEY_LEN: usize = 32;
@@ -68,3 +73,19 @@ pub const MAX_MESSAGE_LEN: usize = 65_536;
 pub const MAX_STEPS: usize = 4096;
 /// The largest net count; the smallest is its negative.
 pub const MAX_COUNT: i32 = 65_536;
+/// Bytes of a store's cell, of which its length is a multiple.
+pub const CELL_LEN: usize = 64;
+/// The shortest store in bytes.
+pub const MIN_STORE_LEN: usize = 128;
+/// The longest store in bytes.
+pub const MAX_STORE_LEN: usize = 65_536;
+/// Bytes of a sale in its cell: nonce, sealed record and tag.
+pub const SALE_LEN: usize = 61;
+/// Bytes at the end of a sale's nonce that the caller chooses.
+pub const NONCE_TAIL_LEN: usize = 8;
+/// Bytes of a sale's clock.
+pub const CLOCK_LEN: usize = 6;
+/// A sale paid in coins, the only one that counts in the cash total.
+pub const MEANS_COIN: u8 = 1;
+/// A sale paid by card.
+pub const MEANS_CARD: u8 = 2;

@@ -18,7 +18,8 @@ use core::fmt;
 pub struct Refusal {
     /// What the call was refused for.
     pub ground: Ground,
-    /// Where the ground lies: the index of the step for [`Ground::Step`], 0 for the others here.
+    /// Where the ground lies: the index of the step for [`Ground::Step`], the cell for
+    /// [`Ground::Tag`] of a sale in a store, 0 for the others here.
     pub place: u32,
 }
 
@@ -48,8 +49,9 @@ impl From<Ground> for Refusal {
 macro_rules! grounds {
     ($($number:literal $name:ident $text:literal,)+) => {
         /// What a call is refused for. Its [number](Self::number) is the same in every interface
-        /// of the library. In its text `{place}` stands for the [place](Refusal::place) and
-        /// `{rounds}` for the [allowed counts](Rounds::LIST).
+        /// of the library. In its text `{place}` stands for the [place](Refusal::place), `{cell}`
+        /// for the same as a cell, where it is one, and `{rounds}` for the
+        /// [allowed counts](Rounds::LIST).
         #[derive(Clone, Copy, Debug, PartialEq, Eq, Hash)]
         #[non_exhaustive]
         pub enum Ground {
@@ -101,11 +103,14 @@ grounds! {
     6 InputTooLong "message is over 65,536 bytes, or parcel over 65,568",
     7 OutputTooShort "output is shorter than what success writes",
     8 InputTooShort "parcel is under 32 bytes",
-    9 Tag "tag differs",
+    9 Tag "tag differs{cell}",
     10 StartLength "start is not 128 bytes",
     11 Count "net count is outside -65,536 to 65,536",
     12 Step "step at {place} is not 1 to 6",
     13 TooManySteps "list is over 4,096 steps",
+    14 StoreForm "store is not 128 to 65,536 bytes in cells of 64, or its chains are broken",
+    15 StoreFull "store has no free cell",
+    16 SaleNumbers "machine and sale number are there already (take) or not there (cancel, read)",
 }
 
 impl fmt::Display for Refusal {
@@ -113,6 +118,12 @@ impl fmt::Display for Refusal {
         let text = self.ground.text();
         if let Some((before, after)) = text.split_once("{place}") {
             write!(f, "{before}{}{after}", self.place)
+        } else if let Some((before, after)) = text.split_once("{cell}") {
+            // Cell 0 never holds a sale, so that a place of 0 is no cell.
+            match self.place {
+                0 => write!(f, "{before}{after}"),
+                cell => write!(f, "{before} in cell {cell}{after}"),
+            }
         } else if let Some((before, after)) = text.split_once("{rounds}") {
             write!(f, "{before}{}{after}", Rounds::LIST)
         } else {

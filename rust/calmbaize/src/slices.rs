@@ -1,9 +1,11 @@
-//! The four calls as C has them: slices of any length, mode and round count as plain numbers, and
-//! every ground checked by the library.
+//! The calls as C has them: slices of any length, mode and round count as plain numbers, and every
+//! ground checked by the library.
 //!
 //! They are for those who do not know the lengths beforehand. Here nothing but the order tells
-//! one slice from another; [`Aead`](crate::Aead), [`walk`](crate::walk()) and
-//! [`jump`](crate::jump()) tell them apart by type.
+//! one slice from another; [`Aead`](crate::Aead), [`walk`](crate::walk()), [`jump`](crate::jump())
+//! and [`Store`](crate::Store) tell them apart by type.
+
+pub mod store;
 
 use crate::ffi;
 use crate::Refusal;
@@ -99,7 +101,7 @@ pub fn open(
 /// ```
 pub fn walk(start: &[u8], steps: &[u8], output: &mut [u8]) -> Result<usize, Refusal> {
     // SAFETY: each pointer is valid for its length, and a mutable borrow overlaps no other.
-    written(unsafe {
+    value(unsafe {
         ffi::calmbaize_walk(
             start.as_ptr(),
             start.len(),
@@ -139,7 +141,7 @@ pub fn jump(
     output: &mut [u8],
 ) -> Result<usize, Refusal> {
     // SAFETY: each pointer is valid for its length, and a mutable borrow overlaps no other.
-    written(unsafe {
+    value(unsafe {
         ffi::calmbaize_jump(
             start.as_ptr(),
             start.len(),
@@ -170,7 +172,7 @@ fn seal_or_open(
         Call::Open => ffi::calmbaize_open,
     };
     // SAFETY: each pointer is valid for its length, and a mutable borrow overlaps no other.
-    written(unsafe {
+    value(unsafe {
         function(
             mode,
             rounds,
@@ -191,7 +193,7 @@ fn seal_or_open(
 // A value of 32 bits is a `usize` on every machine that can hold the longest message.
 const _: () = assert!(usize::BITS >= 32);
 
-/// The bytes written, where that is what success answers.
-fn written(answer: u64) -> Result<usize, Refusal> {
+/// A length or an offset, where that is what success answers.
+fn value(answer: u64) -> Result<usize, Refusal> {
     ffi::decode(answer).map(|value| value as usize)
 }

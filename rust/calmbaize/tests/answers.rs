@@ -5,7 +5,7 @@ use calmbaize::{Ground, Refusal, Rounds};
 use std::error::Error;
 
 /// The first number that no ground has.
-const UNKNOWN: u32 = 14;
+const UNKNOWN: u32 = 17;
 
 fn refusal(number: u32, place: u32) -> Refusal {
     decode(u64::from(number) << 32 | u64::from(place)).unwrap_err()
@@ -19,7 +19,7 @@ fn a_success_is_its_value() {
 }
 
 #[test]
-fn numbers_of_document_01() {
+fn numbers_of_the_documents() {
     let grounds = [
         Ground::Mode,
         Ground::Rounds,
@@ -34,6 +34,9 @@ fn numbers_of_document_01() {
         Ground::Count,
         Ground::Step,
         Ground::TooManySteps,
+        Ground::StoreForm,
+        Ground::StoreFull,
+        Ground::SaleNumbers,
     ];
     for (number, ground) in (1..UNKNOWN).zip(grounds) {
         assert_eq!(ground.number(), number);
@@ -59,7 +62,8 @@ fn refusals_are_errors_with_a_text() {
         error.to_string()
     };
     assert_eq!(text(2), format!("round count is not {}", Rounds::LIST));
-    assert_eq!(text(9), "tag differs");
+    assert_eq!(text(9), "tag differs in cell 7");
+    assert_eq!(refusal(9, 0).to_string(), "tag differs");
     assert_eq!(text(12), "step at 7 is not 1 to 6");
     assert_eq!(text(UNKNOWN), "ground is not known to this version, at 7");
 }

@@ -2,22 +2,21 @@
 
 use crate::files::{self, Access};
 use crate::help;
-use crate::options::Options;
+use crate::options::{needed, Options};
 use crate::Failure;
 use calmbaize::{slices, Aead, Header, Key, Mode, Nonce, Rounds};
 use calmbaize::{BLOCK_LEN, KEY_LEN, MAX_HEADER_LEN, MAX_MESSAGE_LEN, MAX_STEPS};
 use calmbaize::{NONCE_LEN, TAG_LEN};
 
-/// A command's name, its help, its options, what it writes, and who may read that.
+/// A command's name, its help, its options beside `--help`, and what it does.
 pub struct Command {
     pub name: &'static str,
     pub help: fn() -> String,
     pub options: &'static [&'static str],
-    pub run: fn(&Options) -> Result<Vec<u8>, Failure>,
-    pub access: Access,
+    pub run: fn(&Options) -> Result<(), Failure>,
 }
 
-const SEALING: [&str; 8] = [
+const SEALING: [&str; 11] = [
     "--key",
     "--key-file",
     "--nonce",
@@ -26,6 +25,9 @@ const SEALING: [&str; 8] = [
     "--header-file",
     "--mode",
     "--rounds",
+    "--input",
+    "--output",
+    "--hex",
 ];
 
 /// A parcel may be seen by anyone. A mask is as secret as the key, since its steps and the
@@ -35,29 +37,27 @@ pub const COMMANDS: [Command; 4] = [
         name: "seal",
         help: help::seal,
         options: &SEALING,
-        run: seal,
-        access: Access::Ordinary,
+        run: |options| output(options, seal(options)?, Access::Ordinary),
     },
     Command {
         name: "open",
         help: help::open,
         options: &SEALING,
-        run: open,
-        access: Access::Owner,
+        run: |options| output(options, open(options)?, Access::Owner),
     },
     Command {
         name: "walk",
         help: help::walk,
-        options: &["--steps", "--start"],
-        run: walk,
-        access: Access::Owner,
+        options: &["--steps", "--start", "--input", "--output", "--hex"],
+        run: |options| output(options, walk(options)?, Access::Owner),
     },
     Command {
         name: "jump",
         help: help::jump,
-        options: &["--alpha", "--beta", "--gamma", "--start"],
-        run: jump,
-        access: Access::Owner,
+        options: &[
+            "--alpha", "--beta", "--gamma", "--start", "--input", "--output", "--hex",
+        ],
+        run: |options| output(options, jump(options)?, Access::Owner),
     },
 ];
 
@@ -79,12 +79,11 @@ impl Settings {
             Some("opp") => Mode::Opp,
             Some(_) => return Err(Failure::Usage("--mode is opp or mro".into())),
         };
-        let count = options.number("--rounds", DEFAULT_ROUNDS.count())?;
-        let needed = |name: &str| Failure::Usage(format!("--{name} or --{name}-file is needed"));
-        let key = bytes(options, "--key", "--key-file", KEY_LEN)?;
-        let key = key.ok_or_else(|| needed("key"))?;
+        let default = DEFAULT_ROUNDS.count();
+        let count = options.number("--rounds")?.unwrap_or(default);
+        let key = key_bytes(options)?.ok_or_else(key_needed)?;
         let nonce = bytes(options, "--nonce", "--nonce-file", NONCE_LEN)?;
-        let nonce = nonce.ok_or_else(|| needed("nonce"))?;
+        let nonce = nonce.ok_or_else(|| needed("--nonce or --nonce-file"))?;
         let header = bytes(options, "--header", "--header-file", MAX_HEADER_LEN)?;
         let (rounds, key) = (Rounds::try_from(count)?, Key::try_from(&key[..])?);
         Ok(Self {
@@ -126,9 +125,9 @@ fn walk(options: &Options) -> Result<Vec<u8>, Failure> {
 }
 
 fn jump(options: &Options) -> Result<Vec<u8>, Failure> {
-    let alpha = options.number("--alpha", 0)?;
-    let beta = options.number("--beta", 0)?;
-    let gamma = options.number("--gamma", 0)?;
+    let alpha = options.number("--alpha")?.unwrap_or(0);
+    let beta = options.number("--beta")?.unwrap_or(0);
+    let gamma = options.number("--gamma")?.unwrap_or(0);
     let mut reached = vec![0; BLOCK_LEN];
     slices::jump(&start(options)?, alpha, beta, gamma, &mut reached)?;
     Ok(reached)
@@ -143,6 +142,28 @@ fn start(options: &Options) -> Result<Vec<u8>, Failure> {
 
 fn input(options: &Options, limit: usize) -> Result<Vec<u8>, Failure> {
     files::read(options.value("--input"), limit)
+}
+
+fn output(options: &Options, mut bytes: Vec<u8>, access: Access) -> Result<(), Failure> {
+    if options.has("--hex") {
+        bytes = (hex(&bytes) + "\n").into_bytes();
+    }
+    files::write(options.value("--output"), &bytes, access)
+}
+
+/// Bytes in hexadecimal.
+pub fn hex(bytes: &[u8]) -> String {
+    bytes.iter().map(|byte| format!("{byte:02x}")).collect()
+}
+
+/// What is given as a key, of any length.
+pub fn key_bytes(options: &Options) -> Result<Option<Vec<u8>>, Failure> {
+    bytes(options, "--key", "--key-file", KEY_LEN)
+}
+
+/// What is wrong where no key is given.
+pub fn key_needed() -> Failure {
+    needed("--key or --key-file")
 }
 
 /// Bytes from one of two options: hexadecimal, or a file.

@@ -22,6 +22,12 @@ pub fn is_standard(path: &OsStr) -> bool {
     path == "-"
 }
 
+/// Whether two paths lead to one file.
+pub fn is_same(one: &OsStr, other: &OsStr) -> bool {
+    let one = fs::canonicalize(one);
+    one.is_ok_and(|one| fs::canonicalize(other).is_ok_and(|other| one == other))
+}
+
 /// The bytes of a file, or of standard input where none is named. Reading stops one byte past
 /// `limit`, which is enough to be refused.
 pub fn read(path: Option<&OsStr>, limit: usize) -> Result<Vec<u8>, Failure> {
@@ -39,6 +45,16 @@ pub fn read(path: Option<&OsStr>, limit: usize) -> Result<Vec<u8>, Failure> {
     Ok(bytes)
 }
 
+/// Bytes from the system's source of random ones.
+pub fn random<const N: usize>() -> Result<[u8; N], Failure> {
+    const SOURCE: &str = "/dev/urandom";
+    let mut bytes = [0; N];
+    File::open(SOURCE)
+        .and_then(|mut source| source.read_exact(&mut bytes))
+        .map_err(|error| failed("read", SOURCE, &error))?;
+    Ok(bytes)
+}
+
 /// Writes `bytes` to a file, or to standard output where none is named.
 pub fn write(path: Option<&OsStr>, bytes: &[u8], access: Access) -> Result<(), Failure> {
     match path.filter(|path| !is_standard(path)) {
@@ -52,6 +68,43 @@ pub fn write(path: Option<&OsStr>, bytes: &[u8], access: Access) -> Result<(), F
     }
 }
 
+/// Writes text to standard output.
+pub fn print(text: &str) -> Result<(), Failure> {
+    write(None, text.as_bytes(), Access::Ordinary)
+}
+
+/// Hands the bytes of a file to `change` and, where that succeeds, writes them. Reading stops one
+/// byte past `limit`, which is enough to be refused.
+pub fn change<T>(
+    path: &OsStr,
+    limit: usize,
+    change: impl FnOnce(&mut [u8]) -> Result<T, Failure>,
+) -> Result<T, Failure> {
+    let failed = |error: io::Error| failed("change", path, &error);
+    let replacement = lock_existing(path).map_err(failed)?;
+    // A file that may not be written to is not replaced either.
+    let mut file = OpenOptions::new();
+    let file = file.read(true).write(true).open(&replacement.target);
+    let mut bytes = Vec::new();
+    file.and_then(|file| file.take(limit as u64 + 1).read_to_end(&mut bytes))
+        .map_err(failed)?;
+    let answer = change(&mut bytes)?;
+    replacement.put(&bytes).map_err(failed)?;
+    Ok(answer)
+}
+
+/// Writes a file that is not there yet.
+pub fn create(path: &OsStr, bytes: &[u8]) -> Result<(), Failure> {
+    let created = lock(PathBuf::from(path), None).and_then(|replacement| {
+        // A link that leads nowhere is there too.
+        if fs::symlink_metadata(path).is_ok() {
+            return Err(io::Error::other("it is there already"));
+        }
+        replacement.put(bytes)
+    });
+    created.map_err(|error| failed("create", path, &error))
+}
+
 /// A file appears under its name once it is whole. What is no file, such as a pipe, is written to
 /// as it stands.
 fn write_path(path: &Path, bytes: &[u8], access: Access) -> io::Result<()> {
@@ -60,19 +113,9 @@ fn write_path(path: &Path, bytes: &[u8], access: Access) -> io::Result<()> {
         return OpenOptions::new().write(true).open(path)?.write_all(bytes);
     }
     let kept = existing.map(|found| found.permissions());
-    let (mode, kept) = match (access, kept) {
-        (Access::Owner, _) => (0o600, None),
-        (Access::Ordinary, None) => (0o666, None),
-        (Access::Ordinary, Some(kept)) => (kept.mode() & 0o777, Some(kept)),
-    };
     let target = fs::canonicalize(path).unwrap_or_else(|_| path.to_path_buf());
     let temporary = temporary_name(&target)?;
-    let file = create(&temporary, mode)?;
-    let written = fill(file, bytes, mode, kept).and_then(|()| fs::rename(&temporary, &target));
-    if written.is_err() {
-        fs::remove_file(&temporary).ok();
-    }
-    written
+    Replacement::new(target, temporary, access, kept)?.put(bytes)
 }
 
 /// A name beside the target, so that a rename stays within one file system.
@@ -81,25 +124,91 @@ fn temporary_name(target: &Path) -> io::Result<PathBuf> {
     Ok(target.with_file_name(format!(".calmbaize.{}.tmp", process::id())))
 }
 
-/// A new file. It is never open to more than `mode` says, not even while it is empty: who has
-/// opened it can read what is written later.
-fn create(path: &Path, mode: u32) -> io::Result<File> {
-    let mut options = OpenOptions::new();
-    options.write(true).create_new(true).mode(mode).open(path)
+fn lock_existing(path: &OsStr) -> io::Result<Replacement> {
+    let target = fs::canonicalize(path)?;
+    let existing = fs::metadata(&target)?;
+    if !existing.is_file() {
+        return Err(io::Error::other("it is no file"));
+    }
+    lock(target, Some(existing.permissions()))
 }
 
-/// Writes a new file that was made with `mode`, of which the umask may have taken some of what
-/// is `kept`.
-fn fill(mut file: File, bytes: &[u8], mode: u32, kept: Option<Permissions>) -> io::Result<()> {
-    // Some file systems have no permissions of their own.
-    if file.metadata()?.permissions().mode() & 0o066 & !mode != 0 {
-        return Err(io::Error::other("others could read or change it there"));
+/// A replacement whose name no two runs of the tool can have at a time, so that none of them
+/// undoes what another has written.
+fn lock(target: PathBuf, kept: Option<Permissions>) -> io::Result<Replacement> {
+    let mut path = target.clone().into_os_string();
+    path.push(".lock");
+    let name = path.to_string_lossy().into_owned();
+    let locked = Replacement::new(target, path.into(), Access::Ordinary, kept);
+    locked.map_err(|error| match error.kind() {
+        io::ErrorKind::AlreadyExists => io::Error::other(format!(
+            "{name} is there: another run is changing the file, or was killed and left that behind"
+        )),
+        _ => error,
+    })
+}
+
+/// A new file that is to take the place of another. Where it does not, it is removed again.
+struct Replacement {
+    file: File,
+    path: PathBuf,
+    target: PathBuf,
+    /// What it was made with, of which the umask may have taken some of what is `kept`.
+    mode: u32,
+    kept: Option<Permissions>,
+    in_place: bool,
+}
+
+impl Replacement {
+    /// `kept` are the permissions of the file that is there. The new one is never open to more
+    /// readers than in the end, not even while it is empty: who has opened it can read what is
+    /// written later.
+    fn new(
+        target: PathBuf,
+        path: PathBuf,
+        access: Access,
+        kept: Option<Permissions>,
+    ) -> io::Result<Self> {
+        let (mode, kept) = match (access, kept) {
+            (Access::Owner, _) => (0o600, None),
+            (Access::Ordinary, None) => (0o666, None),
+            (Access::Ordinary, Some(kept)) => (kept.mode() & 0o777, Some(kept)),
+        };
+        let mut options = OpenOptions::new();
+        let file = options.write(true).create_new(true).mode(mode).open(&path);
+        Ok(Self {
+            file: file?,
+            path,
+            target,
+            mode,
+            kept,
+            in_place: false,
+        })
     }
-    file.write_all(bytes)?;
-    if let Some(kept) = kept {
-        file.set_permissions(kept)?;
+
+    fn put(mut self, bytes: &[u8]) -> io::Result<()> {
+        // Some file systems have no permissions of their own.
+        if self.file.metadata()?.permissions().mode() & 0o066 & !self.mode != 0 {
+            return Err(io::Error::other("others could read or change it there"));
+        }
+        self.file.write_all(bytes)?;
+        if let Some(kept) = self.kept.take() {
+            self.file.set_permissions(kept)?;
+        }
+        self.file.sync_all()?;
+        fs::rename(&self.path, &self.target)?;
+        self.in_place = true;
+        Ok(())
     }
-    file.sync_all()
+}
+
+impl Drop for Replacement {
+    fn drop(&mut self) {
+        // Once it is in place, its first name may be another run's.
+        if !self.in_place {
+            fs::remove_file(&self.path).ok();
+        }
+    }
 }
 
 fn failed(verb: &str, what: impl AsRef<OsStr>, error: &io::Error) -> Failure {

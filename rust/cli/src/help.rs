@@ -1,10 +1,12 @@
 //! The texts of `--help`.
 
+pub mod store;
+
 use crate::commands::DEFAULT_ROUNDS;
 use calmbaize::Rounds;
 
 pub const GENERAL: &str = "\
-Seals and opens messages, and walks the masks behind both.
+Seals and opens messages, walks the masks behind both, and keeps sealed sales.
 
 usage: calmbaize COMMAND [OPTIONS]
 
@@ -13,6 +15,7 @@ commands:
   open    verify and decrypt a parcel
   walk    take a list of steps from a start block
   jump    take net counts of steps from a start block
+  store   keep sealed sales in a file, by commands of its own
 
 'calmbaize COMMAND --help' has the options of each. A FILE of '-' is standard
 input or standard output.
@@ -106,15 +109,23 @@ options:
 /// What seal and open share.
 fn settings() -> String {
     let (allowed, default) = (Rounds::LIST, DEFAULT_ROUNDS.count());
+    let key = key();
     format!(
-        "      --key HEX            key, 32 bytes in hexadecimal; {SEEN}
-      --key-file FILE      key, 32 raw bytes
-  -n, --nonce HEX          nonce, 16 bytes in hexadecimal
+        "{key}  -n, --nonce HEX          nonce, 16 bytes in hexadecimal
       --nonce-file FILE    nonce, 16 raw bytes
       --header HEX         header, authenticated but not sent [none]
       --header-file FILE   header, up to 4,096 raw bytes
   -m, --mode opp|mro       opp needs a fresh nonce for every message [mro]
   -r, --rounds COUNT       rounds of the permutation, {allowed} [{default}]
+"
+    )
+}
+
+/// What all commands with a key share.
+fn key() -> String {
+    format!(
+        "      --key HEX            key, 32 bytes in hexadecimal; {SEEN}
+      --key-file FILE      key, 32 raw bytes
 "
     )
 }

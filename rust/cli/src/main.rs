@@ -4,16 +4,17 @@ mod commands;
 mod files;
 mod help;
 mod options;
+mod store;
 
 use calmbaize::Refusal;
-use commands::{Command, COMMANDS};
-use files::Access;
+use commands::Command;
 use options::Options;
 use std::ffi::{OsStr, OsString};
 use std::process::ExitCode;
 
 /// Why a command did not succeed. A file that can't be written may be a pipe, a device or standard
-/// output that has got a part; otherwise nothing was written.
+/// output that has got a part, after a store was changed; otherwise nothing was written, but for
+/// a list with sales that won't open.
 enum Failure {
     Usage(String),
     File(String),
@@ -26,19 +27,20 @@ impl From<Refusal> for Failure {
     }
 }
 
-/// Options of every command.
-const COMMON: [&str; 4] = ["--input", "--output", "--hex", "--help"];
-
 fn main() -> ExitCode {
-    let mut args = std::env::args_os().skip(1);
-    let name = args.next().unwrap_or_default();
-    let command = COMMANDS.iter().find(|command| name == command.name);
-    let (result, hint) = match command {
-        Some(command) => (
-            execute(command, args),
-            format!("calmbaize {}", command.name),
+    let mut args = std::env::args_os().skip(1).peekable();
+    let (group, commands, help) = match args.next_if(|arg| arg == "store") {
+        Some(_) => (
+            "calmbaize store",
+            &store::COMMANDS[..],
+            help::store::GENERAL,
         ),
-        None => (general(&name), "calmbaize".into()),
+        None => ("calmbaize", &commands::COMMANDS[..], help::GENERAL),
+    };
+    let name = args.next().unwrap_or_default();
+    let (result, hint) = match commands.iter().find(|command| name == command.name) {
+        Some(command) => (execute(command, args), format!("{group} {}", command.name)),
+        None => (general(&name, help), group.into()),
     };
     let (message, status) = match result {
         Ok(()) => return ExitCode::SUCCESS,
@@ -52,29 +54,20 @@ fn main() -> ExitCode {
     ExitCode::from(status)
 }
 
-fn general(name: &OsStr) -> Result<(), Failure> {
+fn general(name: &OsStr, help: &str) -> Result<(), Failure> {
     match name.to_string_lossy().as_ref() {
-        "--help" | "-h" | "help" => show(help::GENERAL),
-        "--version" | "-V" => show(concat!("calmbaize ", env!("CARGO_PKG_VERSION"), "\n")),
+        "--help" | "-h" | "help" => files::print(help),
+        "--version" | "-V" => files::print(concat!("calmbaize ", env!("CARGO_PKG_VERSION"), "\n")),
         "" => Err(Failure::Usage("no command".into())),
         other => Err(Failure::Usage(format!("unknown command '{other}'"))),
     }
 }
 
 fn execute(command: &Command, args: impl Iterator<Item = OsString>) -> Result<(), Failure> {
-    let known = [&COMMON, command.options].concat();
+    let known = [&["--help"], command.options].concat();
     let options = Options::parse(args, &known)?;
     if options.has("--help") {
-        return show(&(command.help)());
+        return files::print(&(command.help)());
     }
-    let mut output = (command.run)(&options)?;
-    if options.has("--hex") {
-        let digits: String = output.iter().map(|byte| format!("{byte:02x}")).collect();
-        output = (digits + "\n").into_bytes();
-    }
-    files::write(options.value("--output"), &output, command.access)
-}
-
-fn show(text: &str) -> Result<(), Failure> {
-    files::write(None, text.as_bytes(), Access::Ordinary)
+    (command.run)(&options)
 }

@@ -3,6 +3,7 @@
 use crate::Failure;
 use std::ffi::{OsStr, OsString};
 use std::os::unix::ffi::OsStrExt;
+use std::str::FromStr;
 
 /// Names of one letter, and the long names they stand for. The key has none: it belongs into a
 /// file.
@@ -21,7 +22,10 @@ const SHORT: [(&str, &str); 11] = [
 ];
 
 /// Options without a value.
-const FLAGS: [&str; 2] = ["--hex", "--help"];
+const FLAGS: [&str; 3] = ["--hex", "--help", "--force"];
+
+/// The argument without an option's name, among the options of a command that takes one.
+pub const FILE: &str = "FILE";
 
 /// Options by their long names, each with its value.
 pub struct Options {
@@ -36,6 +40,13 @@ impl Options {
     ) -> Result<Self, Failure> {
         let mut options = Self { given: Vec::new() };
         while let Some(arg) = args.next() {
+            if known.contains(&FILE) && !arg.as_bytes().starts_with(b"-") {
+                if options.has(FILE) {
+                    return Err(Failure::Usage("more than one FILE".into()));
+                }
+                options.given.push((FILE, arg));
+                continue;
+            }
             let (written, attached) = split(&arg);
             let name = known_name(written, known)?;
             let wrong = |what: &str| Err(Failure::Usage(format!("{name} {what}")));
@@ -73,14 +84,21 @@ impl Options {
             .transpose()
     }
 
-    /// The value of an option as a number.
-    pub fn number<T: std::str::FromStr>(&self, name: &str, default: T) -> Result<T, Failure> {
-        match self.text(name)? {
-            Some(text) => text
-                .parse()
-                .map_err(|_| bad(name, "is not a number in range")),
-            None => Ok(default),
-        }
+    /// The value of an option as a number, if it is given.
+    pub fn number<T: FromStr>(&self, name: &str) -> Result<Option<T>, Failure> {
+        let number = self.text(name)?.map(str::parse).transpose();
+        number.map_err(|_| bad(name, "is not a number in range"))
+    }
+
+    /// The value of an option that must be given, as a number.
+    pub fn needed<T: FromStr>(&self, name: &str) -> Result<T, Failure> {
+        self.number(name)?.ok_or_else(|| needed(name))
+    }
+
+    /// The value of an option as so many bytes in hexadecimal.
+    pub fn array<const N: usize>(&self, name: &str) -> Result<Option<[u8; N]>, Failure> {
+        let array = self.hex(name)?.map(<[u8; N]>::try_from).transpose();
+        array.map_err(|_| bad(name, &format!("is not {N} bytes")))
     }
 
     /// The value of an option as bytes in hexadecimal.
@@ -123,6 +141,11 @@ fn known_name(written: &OsStr, known: &[&'static str]) -> Result<&'static str, F
         let written = written.to_string_lossy();
         Failure::Usage(format!("unknown option '{written}'"))
     })
+}
+
+/// What is wrong where an option must be given and is not.
+pub fn needed(name: &str) -> Failure {
+    Failure::Usage(format!("{name} is needed"))
 }
 
 fn bad(name: &str, what: &str) -> Failure {

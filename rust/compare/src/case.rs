@@ -76,6 +76,21 @@ impl<'a> Case<'a> {
         Ok(Input::new(&bytes, self.edge))
     }
 
+    /// The call's next field, a buffer of `len` bytes that the call reads.
+    pub fn input_of(&mut self, len: usize) -> Result<Input, String> {
+        let input = self.input()?;
+        if input.len() == len {
+            return Ok(input);
+        }
+        Err(format!("{} bytes where the call takes {len}", input.len()))
+    }
+
+    /// The call's next field, a number that the call may change.
+    pub fn variable(&mut self) -> Result<Output, String> {
+        let number = self.number::<u64>()?;
+        Ok(Output::new(&number.to_ne_bytes(), self.edge))
+    }
+
     /// The call's next field, a buffer that the call writes.
     pub fn lent(&mut self) -> Result<Lent, String> {
         let before = Bytes::parse(self.field()?)?;
@@ -104,6 +119,17 @@ impl<'a> Case<'a> {
             let place = format!("from byte {at} of {}", lent.now.len());
             self.differences
                 .push(format!("{place} wanted {wanted}, got {got}"));
+        }
+        Ok(())
+    }
+
+    /// Holds a variable after the call against the next field of the answer line.
+    pub fn variable_holds(&mut self, variable: &Output) -> Result<(), String> {
+        let wanted = number::<u64>(self.answer_field()?)?;
+        let got = u64::from_ne_bytes(variable[..].try_into().expect("eight bytes"));
+        if got != wanted {
+            let difference = format!("the variable to be {wanted}, and is {got}");
+            self.differences.push(difference);
         }
         Ok(())
     }
@@ -164,6 +190,32 @@ mod tests {
         let at = "from byte 1 of 3 wanted 0605, got 0505";
         assert_eq!(differs("7 1 050605"), at);
         assert_eq!(differs("0 1 050605"), format!("wanted 0 1, got 7 1; {at}"));
+    }
+
+    /// Replays `variable input`, a call that adds the length of the input, which has to be 2.
+    fn added(fields: &str, answer: &str) -> Result<(), String> {
+        let mut case = Case::new(fields, answer)?;
+        let mut variable = case.variable()?;
+        let added = u64::from_ne_bytes(variable[..].try_into().expect("eight bytes"))
+            + case.input_of(2)?.len() as u64;
+        variable.copy_from_slice(&added.to_ne_bytes());
+        case.variable_holds(&variable)?;
+        case.finish()
+    }
+
+    #[test]
+    fn variables() {
+        for edge in [0, 1, 2] {
+            assert_eq!(
+                added(&format!("{edge} 4294967295 0000"), "4294967297"),
+                Ok(())
+            );
+        }
+        let differs = "the variable to be 8, and is 7";
+        assert_eq!(added("0 5 0000", "8"), Err(differs.into()));
+        for (fields, answer) in [("0 5 00", "7"), ("0 5 000000", "7"), ("0 5 0000", "07x")] {
+            assert!(added(fields, answer).is_err(), "{fields} / {answer}");
+        }
     }
 
     #[test]

@@ -1,6 +1,7 @@
 //! Parcels damaged in every way, and parcels opened under other settings.
 
-use crate::library::{refusal, Call, Entry, Library};
+use crate::call::{Call, Entry};
+use crate::library::{refusal, Library};
 use crate::prng::Prng;
 use crate::report::{Check, Tally};
 use reference::{settings, MRO, OPP, ROUNDS};

@@ -1,6 +1,7 @@
 //! All lengths around the edges of blocks and of the limits.
 
-use crate::library::{Call, Library};
+use crate::call::{pattern, Call};
+use crate::library::Library;
 use crate::prng::Prng;
 use crate::report::{Check, Tally};
 use reference::{settings, MAX_COUNT, MAX_HEADER_LEN, MAX_MESSAGE_LEN, MAX_STEPS};
@@ -42,17 +43,17 @@ fn seal_and_open(prng: &mut Prng, check: &mut Check, mut seal: Call) {
     let len = message.len();
     let allowed = seal.inputs[2].len() <= MAX_HEADER_LEN && len <= MAX_MESSAGE_LEN;
     for output_len in [len + 31, len + 33, len + 100] {
-        seal.output_len = output_len;
+        seal.output = pattern(output_len);
         check.compare(&seal);
     }
-    seal.output_len = len + 32;
+    seal.output = pattern(len + 32);
     let (sealed, parcel) = check.compare(&seal);
     let mut open = seal.into_open(parcel, 0);
     for output_len in [len.saturating_sub(1), len + 1, len + 100] {
-        open.output_len = output_len;
+        open.output = pattern(output_len);
         check.compare(&open);
     }
-    open.output_len = len;
+    open.output = pattern(len);
     let (opened, output) = check.compare(&open);
     if allowed {
         let back = (sealed, opened) == (len as u64 + 32, len as u64) && output == message;
@@ -94,7 +95,7 @@ fn walks(prng: &mut Prng, check: &mut Check) {
 /// Compares a walk or a jump, which has to succeed where its list or count is `allowed` and its
 /// output long enough.
 fn reaches(check: &mut Check, call: &Call, allowed: bool) {
-    if allowed && call.output_len >= 128 {
+    if allowed && call.output.len() >= 128 {
         check.answers(call, 128);
     } else {
         check.compare(call);

@@ -1,12 +1,17 @@
 //! Every set of grounds that can hold at once: the first in the order of the checks wins.
 
-use crate::library::{refusal, Call, Entry, Library};
+use crate::call::{pattern, Call, Entry};
+use crate::library::{refusal, Library};
 use crate::prng::Prng;
 use crate::report::{Check, Tally};
+use crate::stores::sound::{random_sale, KIND_AT};
+use reference::store::{BODY_AT, CELL_LEN, SALE};
 use reference::{settings, MRO, OPP, ROUNDS};
 
 /// A refusal's number and the change to a good call that gives its ground.
 pub type Ground = (u32, fn(&mut Call));
+/// Grounds that can hold at once, in one list or in several.
+pub type Grounds = &'static [&'static [Ground]];
 
 /// The grounds of seal in the order of its checks.
 const SEAL: [Ground; 7] = [
@@ -51,11 +56,47 @@ const WALK: [Ground; 4] = [
 const JUMP: [Ground; 3] = [(10, bad_start), (11, bad_count), (7, no_output)];
 
 /// The entry points and all their grounds.
-pub const ENTRIES: [(&str, &[&[Ground]]); 4] = [
+pub const ENTRIES: [(&str, Grounds); 4] = [
     ("seal", &[&SEAL]),
     ("open", &[&OPEN, &OPEN_SHORT]),
     ("walk", &[&WALK]),
     ("jump", &[&JUMP]),
+];
+
+const FORMAT: [Ground; 1] = [(14, bad_length)];
+
+const TAKE: [Ground; 5] = [
+    (3, bad_key),
+    (14, bad_length),
+    (14, bad_kind),
+    (16, numbers_of_cell_1),
+    (15, full),
+];
+
+const CANCEL: [Ground; 5] = [
+    (3, bad_key),
+    (14, bad_length),
+    (14, bad_kind),
+    (16, other_numbers),
+    (9, bad_sale),
+];
+
+const TOTAL: [Ground; 4] = [
+    (3, bad_key),
+    (14, bad_length),
+    (14, bad_kind),
+    (9, bad_sale),
+];
+
+const READ: [Ground; 3] = [(14, bad_length), (14, bad_kind), (16, other_numbers)];
+
+/// The same of the store.
+pub const STORE_ENTRIES: [(&str, Grounds); 5] = [
+    ("format", &[&FORMAT]),
+    ("take", &[&TAKE]),
+    ("cancel", &[&CANCEL]),
+    ("total", &[&TOTAL]),
+    ("read", &[&READ]),
 ];
 
 /// All sets of grounds of all entry points, and all round counts.
@@ -75,7 +116,25 @@ pub fn run(library: &Library, seed: u64) -> Tally {
     all_sets(&mut check, &WALK, &walk, 128);
     let jump = Call::jump(prng.bytes(128), [1, -2, 3], 128);
     all_sets(&mut check, &JUMP, &jump, 128);
+    stores(&mut prng, &mut check);
     check.tally
+}
+
+/// A store with sales in cells 2 and 1, in this order, and with cell 3 free.
+fn stores(prng: &mut Prng, check: &mut Check) {
+    let key = prng.bytes(32);
+    let [first, second, third] = [5, 6, 7].map(|sale| random_sale(prng, 1, sale));
+    let format = Call::format(&prng.bytes(4 * CELL_LEN));
+    let mut store = check.answers(&format, 0);
+    store = check.answers(&Call::take(&key, &store, &first), 1);
+    store = check.answers(&Call::take(&key, &store, &second), 2);
+    all_sets(check, &FORMAT, &format, 0);
+    all_sets(check, &TAKE, &Call::take(&key, &store, &third), 3);
+    let cancel = Call::cancel(&key, &store, first.machine, first.sale);
+    all_sets(check, &CANCEL, &cancel, first.amount.into());
+    all_sets(check, &TOTAL, &Call::total(&key, &store), 0);
+    let read = Call::read(&store, first.machine, first.sale);
+    all_sets(check, &READ, &read, (CELL_LEN + BODY_AT) as u64);
 }
 
 /// The library allows the counts that the second implementation does and no other, nor one that
@@ -103,10 +162,11 @@ fn all_sets(check: &mut Check, grounds: &[Ground], good: &Call, done: u64) {
                 first = first.or(Some(*number));
             }
         }
-        let wanted = match first {
-            Some(12) => refusal(12, 2),
-            Some(number) => refusal(number, 0),
-            None => done,
+        let wanted = match (first, call.entry) {
+            (Some(12), _) => refusal(12, 2),
+            (Some(9), Entry::Cancel { .. } | Entry::Total) => refusal(9, 1),
+            (Some(number), _) => refusal(number, 0),
+            (None, _) => done,
         };
         check.answers(&call, wanted);
     }
@@ -138,12 +198,12 @@ fn bad_header(call: &mut Call) {
 
 fn long_input(call: &mut Call) {
     call.inputs[3].resize(65_537, 0);
-    call.output_len = 65_569;
+    call.output = pattern(65_569);
 }
 
 fn long_parcel(call: &mut Call) {
     call.inputs[3].resize(65_569, 0);
-    call.output_len = 65_537;
+    call.output = pattern(65_537);
 }
 
 fn short_parcel(call: &mut Call) {
@@ -152,10 +212,10 @@ fn short_parcel(call: &mut Call) {
 
 /// One byte short for either entry point, after the input has its length.
 fn short_output(call: &mut Call) {
-    call.output_len = match call.entry {
+    call.output = pattern(match call.entry {
         Entry::Open { .. } => call.inputs[3].len() - 33,
         _ => call.inputs[3].len() + 31,
-    };
+    });
 }
 
 fn bad_tag(call: &mut Call) {
@@ -183,5 +243,37 @@ fn bad_count(call: &mut Call) {
 }
 
 fn no_output(call: &mut Call) {
-    call.output_len = 127;
+    call.output = pattern(127);
+}
+
+fn bad_length(call: &mut Call) {
+    call.store_mut().push(0);
+}
+
+fn bad_kind(call: &mut Call) {
+    call.store_mut()[CELL_LEN + KIND_AT] = 3;
+}
+
+fn numbers_of_cell_1(call: &mut Call) {
+    if let Entry::Take { sale, .. } = &mut call.entry {
+        *sale = 5;
+    }
+}
+
+/// Cell 3 becomes the first sale.
+fn full(call: &mut Call) {
+    let store = call.store_mut();
+    store[..4].copy_from_slice(&[3, 0, 0, 0]);
+    store[3 * CELL_LEN..][..3].copy_from_slice(&[2, 0, SALE]);
+}
+
+fn other_numbers(call: &mut Call) {
+    if let Entry::Cancel { machine, .. } | Entry::Read { machine, .. } = &mut call.entry {
+        *machine = 2;
+    }
+}
+
+/// A bit of the tag in cell 1.
+fn bad_sale(call: &mut Call) {
+    call.store_mut()[2 * CELL_LEN - 1] ^= 0x80;
 }

@@ -1,13 +1,27 @@
 //! Every lent buffer at the edge of a page that can't be touched.
 
+use crate::call::Call;
 use crate::child;
-use crate::grounds::ENTRIES;
-use crate::library::{expected, Call, Library};
+use crate::grounds::{ENTRIES, STORE_ENTRIES};
+use crate::library::{expected, Library};
 use crate::pages::{Edge, Input, Output};
 use crate::prng::Prng;
-use crate::report::{pattern, Tally};
+use crate::report::Tally;
+use crate::stores::sound::Sound;
+use crate::stores::ways::WAYS;
 use reference::settings;
 use std::collections::BTreeSet;
+
+/// Cells and sales of stores: small ones, ones of a page and a cell more, and the longest.
+const STORES: [(usize, usize); 7] = [
+    (2, 0),
+    (2, 1),
+    (3, 1),
+    (5, 2),
+    (64, 40),
+    (65, 64),
+    (1024, 9),
+];
 
 /// Runs the calls in a child process, since a byte read or written outside ends it.
 pub fn run(library: &str) -> Tally {
@@ -28,7 +42,7 @@ pub fn child(library: &Library) {
             child::outcome(answer.map(drop));
         }
     }
-    for (name, _) in ENTRIES {
+    for (name, _) in ENTRIES.iter().chain(&STORE_ENTRIES) {
         child::call(name);
         let refused = || "every call was refused".into();
         child::outcome(touched.get(name).map(drop).ok_or_else(refused));
@@ -41,7 +55,7 @@ fn agrees(library: &Library, call: &Call, edge: Edge) -> Result<u64, String> {
     let place = |bytes: &Vec<u8>| Input::new(bytes, edge);
     let inputs: Vec<Input> = call.inputs.iter().map(place).collect();
     let inputs: Vec<&[u8]> = inputs.iter().map(|input| &**input).collect();
-    let mut wanted = pattern(call.output_len);
+    let mut wanted = call.output.clone();
     let mut output = Output::new(&wanted, edge);
     let answer = library.call(call.entry, &inputs, &mut output, false);
     let wanted_answer = expected(call.entry, &inputs, &mut wanted);
@@ -66,6 +80,10 @@ fn calls() -> Vec<Call> {
         }
     }
     walking(&mut prng, &mut calls);
+    for (cells, sales) in STORES {
+        let sound = Sound::random(&mut prng, cells, sales);
+        stores(&mut prng, &mut calls, &sound);
+    }
     calls
 }
 
@@ -73,12 +91,28 @@ fn calls() -> Vec<Call> {
 fn sealing(calls: &mut Vec<Call>, mut seal: Call) {
     let (parcel, len) = (seal.parcel(), seal.inputs[3].len());
     calls.push(seal.clone());
-    seal.output_len -= 1;
+    seal.output.pop();
     calls.push(seal.clone());
     let mut open = seal.into_open(parcel, len);
     calls.push(open.clone());
     open.inputs[3][len / 2] ^= 1;
     calls.push(open);
+}
+
+/// All calls on a sound store, on parts of it, and on damaged ones.
+fn stores(prng: &mut Prng, calls: &mut Vec<Call>, sound: &Sound) {
+    let good = sound.calls(prng);
+    for call in &good {
+        for len in [0, 1, 2, 63, 64, 65, 127, sound.bytes.len() - 1] {
+            calls.push(call.on(&sound.bytes[..len]));
+        }
+        for (_, damage) in WAYS {
+            let mut damaged = sound.clone();
+            damage(prng, &mut damaged);
+            calls.push(call.on(&damaged.bytes));
+        }
+    }
+    calls.extend(good);
 }
 
 fn walking(prng: &mut Prng, calls: &mut Vec<Call>) {

@@ -1,10 +1,11 @@
 //! Known answers, and lengths at their limits.
 
-use crate::library::{refusal, Entry, Library};
-use crate::report::{pattern, Check, Tally};
+use crate::call::{pattern, Entry};
+use crate::library::{refusal, Library};
+use crate::report::{Check, Tally};
 use reference::{MRO, OPP, ROUNDS};
 
-/// Every line that can be seen through the four calls.
+/// Every line that can be seen through the calls.
 pub fn run(library: &Library) -> Tally {
     let mut check = Check::new(library);
     steps(&mut check);

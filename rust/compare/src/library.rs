@@ -1,11 +1,29 @@
 //! Implementations with the C interface, and the second implementation behind the same face.
 
-use crate::prng::Prng;
+use crate::call::Entry;
 use baseline::Sealing;
-use std::fmt;
+use reference::store::{self, Sale, CLOCK_LEN, NONCE_TAIL_LEN};
+use reference::Refusal;
 
 type Walking = unsafe extern "C" fn(*const u8, usize, *const u8, usize, *mut u8, usize) -> u64;
 type Jumping = unsafe extern "C" fn(*const u8, usize, i32, i32, i32, *mut u8, usize) -> u64;
+type Formatting = unsafe extern "C" fn(*mut u8, usize) -> u64;
+type Taking = unsafe extern "C" fn(
+    *const u8,
+    usize,
+    *mut u8,
+    usize,
+    u32,
+    u32,
+    *const u8,
+    u32,
+    u16,
+    u8,
+    *const u8,
+) -> u64;
+type Cancelling = unsafe extern "C" fn(*const u8, usize, *mut u8, usize, u32, u32) -> u64;
+type Totalling = unsafe extern "C" fn(*const u8, usize, *const u8, usize, *mut u64) -> u64;
+type Reading = unsafe extern "C" fn(*const u8, usize, u32, u32) -> u64;
 
 /// A library under test.
 pub enum Library {
@@ -15,12 +33,17 @@ pub enum Library {
     Reference,
 }
 
-/// The four calls of the C interface.
+/// The calls of the C interface.
 pub struct Functions {
     seal: Sealing,
     open: Sealing,
     walk: Walking,
     jump: Jumping,
+    format: Formatting,
+    take: Taking,
+    cancel: Cancelling,
+    total: Totalling,
+    read: Reading,
 }
 
 /// The scalar C version.
@@ -29,6 +52,11 @@ pub const BASELINE: Library = Library::Foreign(Functions {
     open: baseline::baseline_open,
     walk: baseline::baseline_walk,
     jump: baseline::baseline_jump,
+    format: baseline::baseline_store_format,
+    take: baseline::baseline_store_take,
+    cancel: baseline::baseline_store_cancel,
+    total: baseline::baseline_store_total,
+    read: baseline::baseline_store_read,
 });
 
 /// The archive of the proved library, where this program is linked with it.
@@ -38,116 +66,27 @@ pub const ARCHIVE: Option<Library> = Some(Library::Foreign(Functions {
     open: calmbaize::ffi::calmbaize_open,
     walk: calmbaize::ffi::calmbaize_walk,
     jump: calmbaize::ffi::calmbaize_jump,
+    format: calmbaize::ffi::calmbaize_store_format,
+    take: calmbaize::ffi::calmbaize_store_take,
+    cancel: calmbaize::ffi::calmbaize_store_cancel,
+    total: calmbaize::ffi::calmbaize_store_total,
+    read: calmbaize::ffi::calmbaize_store_read,
 }));
 #[cfg(not(feature = "archive"))]
 pub const ARCHIVE: Option<Library> = None;
 
-/// An entry point with the arguments that are no buffers.
-#[derive(Clone, Copy, Debug, PartialEq, Eq)]
-pub enum Entry {
-    /// Buffers: key, nonce, header, message.
-    Seal { mode: u32, rounds: u32 },
-    /// Buffers: key, nonce, header, parcel.
-    Open { mode: u32, rounds: u32 },
-    /// Buffers: start, steps.
-    Walk,
-    /// Buffer: start.
-    Jump { counts: [i32; 3] },
-}
-
-impl Entry {
-    /// The name of the call.
-    pub fn name(self) -> &'static str {
-        match self {
-            Self::Seal { .. } => "seal",
-            Self::Open { .. } => "open",
-            Self::Walk => "walk",
-            Self::Jump { .. } => "jump",
-        }
-    }
-}
-
-/// A call: an entry point, its input buffers and the length of its output.
-#[derive(Clone)]
-pub struct Call {
-    pub entry: Entry,
-    pub inputs: Vec<Vec<u8>>,
-    pub output_len: usize,
-}
-
-impl Call {
-    /// A seal call of random buffers. Its output is as long as the parcel.
-    pub fn seal(prng: &mut Prng, mode: u32, rounds: u32, header_len: usize, len: usize) -> Self {
-        let buffers = [32, 16, header_len, len].map(|len| prng.bytes(len));
-        Self {
-            entry: Entry::Seal { mode, rounds },
-            inputs: buffers.into(),
-            output_len: len + 32,
-        }
-    }
-
-    /// This seal call turned into one that opens `parcel` under the same settings.
-    pub fn into_open(mut self, parcel: Vec<u8>, output_len: usize) -> Self {
-        let Entry::Seal { mode, rounds } = self.entry else {
-            panic!("{self} does not seal");
-        };
-        self.inputs[3] = parcel;
-        Self {
-            entry: Entry::Open { mode, rounds },
-            inputs: self.inputs,
-            output_len,
-        }
-    }
-
-    /// A walk call.
-    pub fn walk(start: Vec<u8>, steps: Vec<u8>, output_len: usize) -> Self {
-        Self {
-            entry: Entry::Walk,
-            inputs: vec![start, steps],
-            output_len,
-        }
-    }
-
-    /// A jump call.
-    pub fn jump(start: Vec<u8>, counts: [i32; 3], output_len: usize) -> Self {
-        Self {
-            entry: Entry::Jump { counts },
-            inputs: vec![start],
-            output_len,
-        }
-    }
-
-    /// The input buffers as they are lent.
-    pub fn slices(&self) -> Vec<&[u8]> {
-        self.inputs.iter().map(Vec::as_slice).collect()
-    }
-
-    /// What the second implementation seals in a seal call, however short its output is.
-    pub fn parcel(&self) -> Vec<u8> {
-        let mut parcel = vec![0; self.inputs[3].len() + 32];
-        expected(self.entry, &self.slices(), &mut parcel);
-        parcel
-    }
-}
-
-impl fmt::Display for Call {
-    fn fmt(&self, f: &mut fmt::Formatter<'_>) -> fmt::Result {
-        let lengths: Vec<usize> = self.inputs.iter().map(Vec::len).collect();
-        write!(
-            f,
-            "{:?}, inputs of {lengths:?}, output of {}",
-            self.entry, self.output_len
-        )
-    }
-}
-
 impl Library {
     /// Makes a call. Where `null` is set, empty buffers are passed as null pointers.
     pub fn call(&self, entry: Entry, inputs: &[&[u8]], output: &mut [u8], null: bool) -> u64 {
-        let functions = match self {
-            Self::Foreign(functions) => functions,
-            Self::Reference => return expected(entry, inputs, output),
-        };
+        match self {
+            Self::Foreign(functions) => functions.call(entry, inputs, output, null),
+            Self::Reference => expected(entry, inputs, output),
+        }
+    }
+}
+
+impl Functions {
+    fn call(&self, entry: Entry, inputs: &[&[u8]], output: &mut [u8], null: bool) -> u64 {
         let at = |i: usize| pointer(inputs[i], null);
         let len = |i: usize| inputs[i].len();
         let (out, out_len) = (pointer_mut(output, null), output.len());
@@ -161,14 +100,55 @@ impl Library {
             )
         };
         match entry {
-            Entry::Seal { mode, rounds } => sealing(functions.seal, mode, rounds),
-            Entry::Open { mode, rounds } => sealing(functions.open, mode, rounds),
+            Entry::Seal { mode, rounds } => sealing(self.seal, mode, rounds),
+            Entry::Open { mode, rounds } => sealing(self.open, mode, rounds),
             // SAFETY: as above.
-            Entry::Walk => unsafe { (functions.walk)(at(0), len(0), at(1), len(1), out, out_len) },
+            Entry::Walk => unsafe { (self.walk)(at(0), len(0), at(1), len(1), out, out_len) },
             Entry::Jump { counts: [a, b, c] } => {
                 // SAFETY: as above.
-                unsafe { (functions.jump)(at(0), len(0), a, b, c, out, out_len) }
+                unsafe { (self.jump)(at(0), len(0), a, b, c, out, out_len) }
             }
+            _ => self.store_call(entry, inputs, output, null),
+        }
+    }
+
+    fn store_call(&self, entry: Entry, inputs: &[&[u8]], output: &mut [u8], null: bool) -> u64 {
+        let at = |i: usize| pointer(inputs[i], null);
+        let len = |i: usize| inputs[i].len();
+        let (out, out_len) = (pointer_mut(output, null), output.len());
+        match entry {
+            // SAFETY: as in `call`.
+            Entry::Format => unsafe { (self.format)(out, out_len) },
+            Entry::Take {
+                machine,
+                sale,
+                amount,
+                column,
+                means,
+            } => {
+                assert_eq!([len(1), len(2)], [NONCE_TAIL_LEN, CLOCK_LEN]);
+                let (key, key_len, tail, clock) = (at(0), len(0), at(1), at(2));
+                // SAFETY: as in `call`; `tail` and `clock` are as long as the call takes them.
+                unsafe {
+                    (self.take)(
+                        key, key_len, out, out_len, machine, sale, tail, amount, column, means,
+                        clock,
+                    )
+                }
+            }
+            Entry::Cancel { machine, sale } => {
+                // SAFETY: as in `call`.
+                unsafe { (self.cancel)(at(0), len(0), out, out_len, machine, sale) }
+            }
+            Entry::Total => {
+                let total = out.cast::<u64>();
+                assert!(out_len == 8 && total.is_aligned(), "a u64 for the total");
+                // SAFETY: as in `call`; `total` is valid for a `u64` and aligned as one.
+                unsafe { (self.total)(at(0), len(0), at(1), len(1), total) }
+            }
+            // SAFETY: as in `call`.
+            Entry::Read { machine, sale } => unsafe { (self.read)(at(0), len(0), machine, sale) },
+            _ => panic!("{entry:?} is no call of the store"),
         }
     }
 }
@@ -202,11 +182,47 @@ pub fn expected(entry: Entry, inputs: &[&[u8]], output: &mut [u8]) -> u64 {
         }
         (Entry::Walk, [start, steps]) => reference::walk(start, steps, output),
         (Entry::Jump { counts }, [start]) => reference::jump(start, counts, output),
-        _ => panic!("{entry:?} with {} buffers", inputs.len()),
+        _ => expected_of_store(entry, inputs, output),
     };
     match result {
-        Ok(written) => written as u64,
+        Ok(value) => value as u64,
         Err((number, place)) => refusal(number, place),
+    }
+}
+
+fn expected_of_store(entry: Entry, inputs: &[&[u8]], output: &mut [u8]) -> Result<usize, Refusal> {
+    match (entry, inputs) {
+        (Entry::Format, []) => store::format(output),
+        (
+            Entry::Take {
+                machine,
+                sale,
+                amount,
+                column,
+                means,
+            },
+            [key, nonce_tail, clock],
+        ) => {
+            let sold = Sale {
+                machine,
+                sale,
+                nonce_tail: (*nonce_tail).try_into().expect("a nonce tail"),
+                amount,
+                column,
+                means,
+                clock: (*clock).try_into().expect("a clock"),
+            };
+            store::take(key, output, &sold)
+        }
+        (Entry::Cancel { machine, sale }, [key]) => {
+            store::cancel(key, output, machine, sale).map(|amount| amount as usize)
+        }
+        (Entry::Total, [key, store]) => store::total(key, store).map(|total| {
+            output.copy_from_slice(&total.to_ne_bytes());
+            0
+        }),
+        (Entry::Read { machine, sale }, [store]) => store::read(store, machine, sale),
+        _ => panic!("{entry:?} with {} buffers", inputs.len()),
     }
 }
 

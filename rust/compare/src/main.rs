@@ -3,6 +3,7 @@
 //!
 //! The last line is 'N passed, M failed', and the exit status is 1 where anything failed.
 
+mod call;
 mod case;
 mod child;
 mod damage;
@@ -13,12 +14,14 @@ mod known;
 mod library;
 mod masks;
 mod maskwalk;
+mod met;
 mod options;
 mod pages;
 mod prng;
 mod random;
 mod replay;
 mod report;
+mod stores;
 mod text;
 
 use library::{Library, ARCHIVE, BASELINE};
@@ -78,6 +81,8 @@ fn check(name: &str, library: &Library, options: &Options) -> Result<Tally, Stri
         "damage" => damage::run(library, options.seed),
         "masks" => masks::run(library, options.seed),
         "guard" => guard::run(&options.library),
+        "store" => stores::history::run(library, options.seed),
+        "store-damage" => stores::damage::run(library, options.seed),
         "random" => random::run(library, options.seed, options.calls),
         "permute" => permute(options.seed),
         "maskwalk" => {

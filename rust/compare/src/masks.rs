@@ -1,6 +1,7 @@
 //! The mask rule and the paper's polynomial, on the library's own walk and jump.
 
-use crate::library::{Entry, Library};
+use crate::call::Entry;
+use crate::library::Library;
 use crate::prng::Prng;
 use crate::report::{Check, Tally};
 

@@ -14,7 +14,10 @@ checks:
   damage      parcels damaged in every way
   masks       orders of steps, jumps, and the paper's polynomial
   guard       every buffer at the edge of a page that can't be touched
-  random      random calls over all four entry points
+  random      random calls of seal, open, walk and jump
+  store       histories of sale stores, held against a ledger too
+  store-damage
+              stores damaged in every way, and all shapes of small ones
   all         all of the above
   maskwalk    the program given by --maskwalk, on hundreds of inputs
   permute     the permutation of the scalar C version, 0 to 12 rounds
@@ -30,8 +33,16 @@ options:
   --known-only        skip the cases of calls that are not known here, instead of failing";
 
 /// What 'all' stands for.
-const ALL: [&str; 7] = [
-    "known", "grounds", "edges", "damage", "masks", "guard", "random",
+const ALL: [&str; 9] = [
+    "known",
+    "grounds",
+    "edges",
+    "damage",
+    "masks",
+    "guard",
+    "random",
+    "store",
+    "store-damage",
 ];
 
 /// Checks whose answers do not come from the second implementation, so that it can be held

@@ -1,71 +1,40 @@
-//! Random calls over all four entry points: long and short, valid, refused and damaged.
+//! Random calls of seal, open, walk and jump: long and short, valid, refused and damaged.
 
+use crate::call::{pattern, Call, Entry};
 use crate::damage;
 use crate::grounds::ENTRIES;
-use crate::library::{Call, Entry, Library};
+use crate::library::Library;
+use crate::met::Met;
 use crate::prng::Prng;
 use crate::report::{Check, Tally};
 use reference::{MRO, OPP, ROUNDS};
-use std::collections::BTreeMap;
 use std::time::Instant;
 
 /// Calls among which every refusal of every entry point is met: each is drawn some fifteen times in
 /// so many, so that one never met is a fault of the drawing or of the library.
 const ENOUGH: u64 = 3000;
 
-/// Calls by entry point and refusal, 0 for none.
-type Met = BTreeMap<(&'static str, u32), u64>;
-
 /// Compares `calls` random calls.
 pub fn run(library: &Library, seed: u64, calls: u64) -> Tally {
     let mut prng = Prng::new(seed);
     let mut check = Check::new(library);
-    let mut met = no_calls();
+    let mut met = Met::new(&ENTRIES);
     let begin = Instant::now();
     for n in 1..=calls {
         let call = random_call(&mut prng);
         let (answer, _) = check.compare(&call);
-        let number = (answer >> 32) as u32;
-        *met.entry((call.entry.name(), number)).or_default() += 1;
+        met.add(&call, answer);
         if n % 50_000 == 0 {
             println!("  {n} calls, {:.0} s", begin.elapsed().as_secs_f64());
         }
     }
-    show(&met);
+    met.show();
     if calls < ENOUGH {
         println!("  too few calls to meet every refusal: that takes {ENOUGH}");
     } else {
-        all_met(&mut check, &met);
+        met.all(&mut check.tally);
     }
     check.tally
-}
-
-/// Every refusal that an entry point can give, met by no call yet.
-fn no_calls() -> Met {
-    let pairs = ENTRIES.into_iter().flat_map(|(name, grounds)| {
-        let numbers = grounds.concat().into_iter().map(|(number, _)| number);
-        [0].into_iter().chain(numbers).map(move |n| ((name, n), 0))
-    });
-    pairs.collect()
-}
-
-/// A line for each entry point.
-fn show(met: &Met) {
-    for (name, _) in ENTRIES {
-        let of_entry = met.iter().filter(|((entry, _), _)| *entry == name);
-        let counts = of_entry.map(|((_, number), count)| format!("{number}: {count}"));
-        let counts: Vec<String> = counts.collect();
-        println!("  {name} by refusal, 0 for none: {}", counts.join(", "));
-    }
-}
-
-/// Counts a refusal that no call met as failed.
-fn all_met(check: &mut Check, met: &Met) {
-    for ((name, number), count) in met {
-        check.record(*count > 0, || {
-            format!("{name}: no call met refusal {number}")
-        });
-    }
 }
 
 fn random_call(prng: &mut Prng) -> Call {
@@ -91,7 +60,7 @@ fn random_seal(prng: &mut Prng) -> Call {
     Call {
         entry: Entry::Seal { mode, rounds },
         inputs,
-        output_len,
+        output: pattern(output_len),
     }
 }
 

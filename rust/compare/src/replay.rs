@@ -1,21 +1,46 @@
 //! Cases written as text, replayed.
 
-use crate::case::{cases, Case};
+use crate::call::Entry;
+use crate::case::{cases, Case, Lent};
 use crate::child;
-use crate::library::{Entry, Library};
+use crate::library::Library;
 use crate::report::Tally;
 use crate::text::shortened;
+use reference::store::{CLOCK_LEN, NONCE_TAIL_LEN};
 
 /// Takes a case's fields, makes its call and holds the answer against the answer line.
 type Replay = fn(&Library, &mut Case) -> Result<(), String>;
 
 /// The calls that can be replayed, by their word. Another call is another line here.
-const CALLS: [(&str, Replay); 2] = [
+const CALLS: [(&str, Replay); 7] = [
     ("seal", |library, case| {
         sealing(library, case, |mode, rounds| Entry::Seal { mode, rounds })
     }),
     ("open", |library, case| {
         sealing(library, case, |mode, rounds| Entry::Open { mode, rounds })
+    }),
+    ("format", |library, case| {
+        let store = case.lent()?;
+        written(library, case, Entry::Format, &[], store)
+    }),
+    ("take", take),
+    ("cancel", |library, case| {
+        let (key, store) = (case.input()?, case.lent()?);
+        let (machine, sale) = (case.number()?, case.number()?);
+        written(
+            library,
+            case,
+            Entry::Cancel { machine, sale },
+            &[&key],
+            store,
+        )
+    }),
+    ("total", total),
+    ("read", |library, case| {
+        let store = case.input()?;
+        let (machine, sale) = (case.number()?, case.number()?);
+        let entry = Entry::Read { machine, sale };
+        case.answers(library.call(entry, &[&store], &mut [], case.null))
     }),
 ];
 
@@ -24,10 +49,46 @@ fn sealing(library: &Library, case: &mut Case, entry: fn(u32, u32) -> Entry) -> 
     let entry = entry(case.number()?, case.number()?);
     let inputs = [case.input()?, case.input()?, case.input()?, case.input()?];
     let inputs = inputs.each_ref().map(|input| &**input);
-    let mut output = case.lent()?;
-    let answer = library.call(entry, &inputs, &mut output.now, case.null);
+    let output = case.lent()?;
+    written(library, case, entry, &inputs, output)
+}
+
+/// `key store machine sale tail amount column means clock`, answered by `number value store`.
+fn take(library: &Library, case: &mut Case) -> Result<(), String> {
+    let (key, store) = (case.input()?, case.lent()?);
+    let (machine, sale) = (case.number()?, case.number()?);
+    let tail = case.input_of(NONCE_TAIL_LEN)?;
+    let entry = Entry::Take {
+        machine,
+        sale,
+        amount: case.number()?,
+        column: case.number()?,
+        means: case.number()?,
+    };
+    let clock = case.input_of(CLOCK_LEN)?;
+    written(library, case, entry, &[&key, &tail, &clock], store)
+}
+
+/// `key store before`, answered by `number value total`.
+fn total(library: &Library, case: &mut Case) -> Result<(), String> {
+    let (key, store) = (case.input()?, case.input()?);
+    let mut total = case.variable()?;
+    let answer = library.call(Entry::Total, &[&key, &store], &mut total, case.null);
     case.answers(answer)?;
-    case.holds(&output)
+    case.variable_holds(&total)
+}
+
+/// Makes a call and holds its answer and the buffer `lent` against `number value buffer`.
+fn written(
+    library: &Library,
+    case: &mut Case,
+    entry: Entry,
+    inputs: &[&[u8]],
+    mut lent: Lent,
+) -> Result<(), String> {
+    let answer = library.call(entry, inputs, &mut lent.now, case.null);
+    case.answers(answer)?;
+    case.holds(&lent)
 }
 
 /// Replays a file in a child process, since its buffers end at pages that can't be touched. Where

@@ -1,9 +1,13 @@
 //! Counting what agrees, and showing what does not.
 
-use crate::library::{expected, Call, Library};
+use crate::call::Call;
+use crate::library::{expected, Library};
 
-/// Bytes watched on both sides of an output.
+/// Bytes watched on both sides of an output, and what they hold.
 const MARGIN: usize = 64;
+const MARGIN_BYTE: u8 = 0xa5;
+/// An output begins at a multiple of it, as a variable of C does.
+const ALIGNMENT: usize = 8;
 /// Failures shown of one check.
 const SHOWN: u64 = 10;
 
@@ -67,9 +71,11 @@ impl<'a> Check<'a> {
     pub fn compare(&mut self, call: &Call) -> (u64, Vec<u8>) {
         let inputs = call.slices();
         let before = call.inputs.clone();
-        let mut wanted = pattern(call.output_len + 2 * MARGIN);
-        let mut found = wanted.clone();
-        let lent = MARGIN..MARGIN + call.output_len;
+        let mut found = vec![MARGIN_BYTE; call.output.len() + 2 * MARGIN + ALIGNMENT];
+        let begin = MARGIN + found[MARGIN..].as_ptr().align_offset(ALIGNMENT);
+        let lent = begin..begin + call.output.len();
+        found[lent.clone()].copy_from_slice(&call.output);
+        let mut wanted = found.clone();
         let wanted_answer = expected(call.entry, &inputs, &mut wanted[lent.clone()]);
         let answer = self
             .library
@@ -77,7 +83,7 @@ impl<'a> Check<'a> {
         let passed = answer == wanted_answer && found == wanted && call.inputs == before;
         self.record(passed, || {
             let byte = found.iter().zip(&wanted).position(|(a, b)| a != b);
-            let byte = byte.map(|at| at as isize - MARGIN as isize);
+            let byte = byte.map(|at| at as isize - begin as isize);
             let inputs = call.inputs == before;
             format!(
                 "{call}: answer {answer:#x}, expected {wanted_answer:#x}; \
@@ -86,9 +92,4 @@ impl<'a> Check<'a> {
         });
         (answer, found[lent].to_vec())
     }
-}
-
-/// What an output holds before a call: never the same byte twice in a row.
-pub fn pattern(len: usize) -> Vec<u8> {
-    (0..len).map(|i| (i * 37 + 11) as u8).collect()
 }

@@ -1,9 +1,7 @@
 //! Byte strings and numbers as case files write them; `cases/README.md` has the format.
 
+use reference::store::CELL_LEN;
 use std::str::FromStr;
-
-/// Bytes of a store's cell.
-const CELL: usize = 64;
 
 /// A byte string of a call line.
 #[derive(Debug, PartialEq, Eq)]
@@ -107,12 +105,12 @@ fn store(text: &str) -> Result<Vec<u8>, String> {
 /// A store of `cells` cells, those behind cell 0 chained upward: free ones, or sales of kind 2.
 /// An index has two bytes and is cut to them.
 fn chained(cells: usize, sales: bool) -> Result<Vec<u8>, String> {
-    let len = cells.checked_mul(CELL).filter(|&len| len > 0);
+    let len = cells.checked_mul(CELL_LEN).filter(|&len| len > 0);
     let mut store = vec![0; len.ok_or("a store needs a cell, and has to fit")?];
     let index = |cell: usize| (if cell < cells { cell as u16 } else { 0 }).to_le_bytes();
     let head = if sales { 0 } else { 2 };
     store[head..head + 2].copy_from_slice(&index(1));
-    for (i, cell) in store.chunks_exact_mut(CELL).enumerate().skip(1) {
+    for (i, cell) in store.chunks_exact_mut(CELL_LEN).enumerate().skip(1) {
         cell[..2].copy_from_slice(&index(i + 1));
         cell[2] = if sales { 2 } else { 0 };
     }

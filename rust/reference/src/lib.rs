@@ -4,8 +4,8 @@
 //! written in another style. Whole messages are handled at once, masks are windows of one run of
 //! words, the steps and their back steps are bit matrices, and powers of those give jumps.
 //!
-//! Each entry point takes the arguments of the C call of the same name and returns the bytes
-//! written, or the number and the place of a refusal.
+//! Each entry point takes the arguments of the C call of the same name and returns its value, or the
+//! number and the place of a refusal.
 
 mod block;
 mod mask;
@@ -13,6 +13,7 @@ mod maskwalk;
 mod matrix;
 mod mode;
 mod permutation;
+pub mod store;
 
 pub use block::{Block, BLOCK_LEN};
 pub use maskwalk::maskwalk;
@@ -152,10 +153,15 @@ fn check_settings(
     check(&[
         (!matches!(mode, OPP | MRO), 1),
         (!ROUNDS.contains(&rounds), 2),
-        (key.len() != KEY_LEN, 3),
+        key_ground(key),
         (nonce.len() != NONCE_LEN, 4),
         (header.len() > MAX_HEADER_LEN, 5),
     ])
+}
+
+/// The ground that every call with a key has.
+fn key_ground(key: &[u8]) -> (bool, u32) {
+    (key.len() != KEY_LEN, 3)
 }
 
 /// Refuses with the number of the first ground that holds.

@@ -11,15 +11,15 @@ use std::path::{Path, PathBuf};
 use std::process::Command;
 
 /// In a shell: no file gets over 512 bytes, and a write past them fails.
-const FILES_OF_ONE_BLOCK: &str = "trap '' XFSZ; ulimit -f 1";
+pub const FILES_OF_ONE_BLOCK: &str = "trap '' XFSZ; ulimit -f 1";
 /// In a shell: a process is killed at its first byte to a file.
-const NO_FILES: &str = "ulimit -c 0; ulimit -f 0";
+pub const NO_FILES: &str = "ulimit -c 0; ulimit -f 0";
 
-fn mode(path: &Path) -> u32 {
+pub fn mode(path: &Path) -> u32 {
     fs::metadata(path).unwrap().permissions().mode() & 0o7777
 }
 
-fn set_mode(path: &Path, mode: u32) {
+pub fn set_mode(path: &Path, mode: u32) {
     fs::set_permissions(path, Permissions::from_mode(mode)).unwrap();
 }
 
@@ -38,7 +38,7 @@ fn with_output(args: &[&str], output: &Path) -> Vec<OsString> {
     args.chain(["-o".into(), output.into()]).collect()
 }
 
-fn names(folder: &Path) -> Vec<OsString> {
+pub fn names(folder: &Path) -> Vec<OsString> {
     let entries = fs::read_dir(folder).unwrap();
     entries.map(|entry| entry.unwrap().file_name()).collect()
 }

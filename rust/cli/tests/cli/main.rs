@@ -1,6 +1,7 @@
 //! The tool as a user runs it.
 
 mod files;
+mod store;
 mod usage;
 
 use calmbaize::Rounds;

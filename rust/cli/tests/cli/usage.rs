@@ -3,8 +3,26 @@
 use crate::{fails, run, sealing, succeeds, KEY, NONCE};
 use calmbaize::Rounds;
 
+const COMMANDS: [&[&str]; 10] = [
+    &["seal"],
+    &["open"],
+    &["walk"],
+    &["jump"],
+    &["store", "format"],
+    &["store", "take"],
+    &["store", "cancel"],
+    &["store", "total"],
+    &["store", "read"],
+    &["store", "list"],
+];
+
+fn help(command: &[&str]) -> String {
+    let text = succeeds(&[command, &["--help"]].concat(), b"");
+    String::from_utf8(text).unwrap()
+}
+
 /// Arguments, and what the error says.
-const WRONG: [(&[&str], &str); 13] = [
+const WRONG: [(&[&str], &str); 27] = [
     (&[], "no command"),
     (&["wrap"], "unknown command 'wrap'"),
     (&["seal"], "--key or --key-file is needed"),
@@ -36,6 +54,35 @@ const WRONG: [(&[&str], &str); 13] = [
         &["jump", "-g=-1"],
         "--gamma has '=' behind its long name only",
     ),
+    (&["store"], "no command; see 'calmbaize store --help'"),
+    (&["store", "open"], "unknown command 'open'"),
+    (&["seal", "FILE"], "unknown option 'FILE'"),
+    (&["store", "list"], "FILE is needed"),
+    (&["store", "list", "-"], "unknown option '-'"),
+    (&["store", "list", "a", "b"], "more than one FILE"),
+    (
+        &["store", "list", "a", "--sale=1"],
+        "unknown option '--sale'",
+    ),
+    (
+        &["store", "format", "a"],
+        "--cells or --force is needed; see 'calmbaize store format --help'",
+    ),
+    (
+        &["store", "format", "a", "--cells=2", "--force"],
+        "--cells and --force exclude each other",
+    ),
+    (
+        &["store", "format", "a", "--cells=-2"],
+        "the value of --cells is not a number in range",
+    ),
+    (&["store", "total", "a"], "--key or --key-file is needed"),
+    (&["store", "cancel", "a", "--sale=1"], "--machine is needed"),
+    (&["store", "read", "a", "--machine=1"], "--sale is needed"),
+    (
+        &["store", "read", "a", "--machine=1", "--sale=4294967296"],
+        "the value of --sale is not a number in range",
+    ),
 ];
 
 #[test]
@@ -61,18 +108,21 @@ fn no_short_option_takes_a_key() {
         let error = fails(&["seal", &format!("{attached}{KEY}")], b"", 2);
         assert!(!error.contains(KEY), "{error}");
     }
-    for command in ["seal", "open", "walk", "jump"] {
-        let help = String::from_utf8(succeeds(&[command, "--help"], b"")).unwrap();
+    for command in COMMANDS {
+        let help = help(command);
         let mut lines = help.lines();
         let secret = lines.find(|line| line.contains("--key HEX") || line.contains("--start HEX"));
-        assert!(secret.unwrap().starts_with("      --"), "{help}");
-        assert!(lines.next().unwrap().contains("list of processes"));
+        assert_eq!(secret.is_none(), command == ["store", "format"], "{help}");
+        if let Some(secret) = secret {
+            assert!(secret.starts_with("      --"), "{help}");
+            assert!(lines.next().unwrap().contains("list of processes"));
+        }
     }
 }
 
 #[test]
 fn counts_are_those_of_the_library() {
-    let help = String::from_utf8(succeeds(&["open", "--help"], b"")).unwrap();
+    let help = help(&["open"]);
     let line = format!("rounds of the permutation, {} [6]", Rounds::LIST);
     assert!(help.contains(&line), "{help}");
     for count in 0..20 {
@@ -84,10 +134,10 @@ fn counts_are_those_of_the_library() {
 
 #[test]
 fn help_for_each_command() {
-    for command in ["seal", "open", "walk", "jump"] {
-        let text = String::from_utf8(succeeds(&[command, "-h"], b"")).unwrap();
+    for command in COMMANDS {
+        let (text, name) = (help(command), command.join(" "));
         assert!(
-            text.contains(&format!("usage: calmbaize {command} ")),
+            text.contains(&format!("usage: calmbaize {name} ")),
             "{text}"
         );
         let mut options = text.lines().filter(|line| line.contains(" --"));
@@ -96,7 +146,60 @@ fn help_for_each_command() {
             "{text}"
         );
         assert!(text.lines().all(|line| line.len() <= 80), "{text}");
+        let short = succeeds(&[command, &["-h"]].concat(), b"");
+        assert_eq!(short, text.as_bytes());
     }
-    let general = String::from_utf8(succeeds(&["--help"], b"")).unwrap();
-    assert!(general.contains("usage: calmbaize COMMAND"), "{general}");
+    for (group, usage) in [(&[][..], "COMMAND"), (&["store"], "store COMMAND")] {
+        let general = help(group);
+        assert!(
+            general.contains(&format!("usage: calmbaize {usage}")),
+            "{general}"
+        );
+        assert!(general.lines().all(|line| line.len() <= 80), "{general}");
+    }
+}
+
+/// What a sale is made of must be said.
+#[test]
+fn fields_of_a_sale() {
+    let all = [
+        "--machine=11",
+        "--sale=1",
+        "--amount=150",
+        "--column=4",
+        "--means=coin",
+        "--key=00",
+    ];
+    let take = |options: &[&str]| fails(&[&["store", "take", "FILE"], options].concat(), b"", 2);
+    for at in 0..all.len() {
+        let left: Vec<&str> = [&all[..at], &all[at + 1..]].concat();
+        let name = all[at].split('=').next().unwrap();
+        let error = take(&left);
+        assert!(error.starts_with(&format!("calmbaize: {name} ")), "{error}");
+        assert!(error.contains(" is needed; "), "{error}");
+    }
+    let wrong = [
+        (
+            "--amount=-1",
+            "the value of --amount is not a number in range",
+        ),
+        (
+            "--column=65536",
+            "the value of --column is not a number in range",
+        ),
+        ("--means=cash", "--means is coin, card or 0 to 255"),
+        ("--means=256", "--means is coin, card or 0 to 255"),
+        ("--clock=0102030405", "the value of --clock is not 6 bytes"),
+        (
+            "--nonce-tail=000102030405060708",
+            "the value of --nonce-tail is not 8 bytes",
+        ),
+    ];
+    for (option, message) in wrong {
+        let name = option.split('=').next().unwrap();
+        let others = all.iter().filter(|other| !other.starts_with(name));
+        let options: Vec<&str> = others.copied().chain([option]).collect();
+        let error = take(&options);
+        assert!(error.contains(message), "{error}");
+    }
 }

@@ -1,0 +1,202 @@
+//! The calls that are compared, with all their arguments.
+
+use crate::library::expected;
+use crate::prng::Prng;
+use reference::store::Sale;
+use std::fmt;
+
+/// An entry point with the arguments that are no buffers.
+#[derive(Clone, Copy, Debug, PartialEq, Eq)]
+pub enum Entry {
+    /// Buffers: key, nonce, header, message.
+    Seal { mode: u32, rounds: u32 },
+    /// Buffers: key, nonce, header, parcel.
+    Open { mode: u32, rounds: u32 },
+    /// Buffers: start, steps.
+    Walk,
+    /// Buffer: start.
+    Jump { counts: [i32; 3] },
+    /// The store is the output.
+    Format,
+    /// Buffers: key, nonce tail, clock. The store is the output.
+    Take {
+        machine: u32,
+        sale: u32,
+        amount: u32,
+        column: u16,
+        means: u8,
+    },
+    /// Buffer: key. The store is the output.
+    Cancel { machine: u32, sale: u32 },
+    /// Buffers: key, store. The output is the eight bytes of the total.
+    Total,
+    /// Buffer: store. There is no output.
+    Read { machine: u32, sale: u32 },
+}
+
+impl Entry {
+    /// The name of the call.
+    pub fn name(self) -> &'static str {
+        match self {
+            Self::Seal { .. } => "seal",
+            Self::Open { .. } => "open",
+            Self::Walk => "walk",
+            Self::Jump { .. } => "jump",
+            Self::Format => "format",
+            Self::Take { .. } => "take",
+            Self::Cancel { .. } => "cancel",
+            Self::Total => "total",
+            Self::Read { .. } => "read",
+        }
+    }
+}
+
+/// A call: an entry point, its input buffers and what its output holds before.
+#[derive(Clone)]
+pub struct Call {
+    pub entry: Entry,
+    pub inputs: Vec<Vec<u8>>,
+    pub output: Vec<u8>,
+}
+
+impl Call {
+    /// A seal call of random buffers. Its output is as long as the parcel.
+    pub fn seal(prng: &mut Prng, mode: u32, rounds: u32, header_len: usize, len: usize) -> Self {
+        let buffers = [32, 16, header_len, len].map(|len| prng.bytes(len));
+        Self {
+            entry: Entry::Seal { mode, rounds },
+            inputs: buffers.into(),
+            output: pattern(len + 32),
+        }
+    }
+
+    /// This seal call turned into one that opens `parcel` under the same settings.
+    pub fn into_open(mut self, parcel: Vec<u8>, output_len: usize) -> Self {
+        let Entry::Seal { mode, rounds } = self.entry else {
+            panic!("{self} does not seal");
+        };
+        self.inputs[3] = parcel;
+        Self {
+            entry: Entry::Open { mode, rounds },
+            inputs: self.inputs,
+            output: pattern(output_len),
+        }
+    }
+
+    /// A walk call.
+    pub fn walk(start: Vec<u8>, steps: Vec<u8>, output_len: usize) -> Self {
+        Self {
+            entry: Entry::Walk,
+            inputs: vec![start, steps],
+            output: pattern(output_len),
+        }
+    }
+
+    /// A jump call.
+    pub fn jump(start: Vec<u8>, counts: [i32; 3], output_len: usize) -> Self {
+        Self {
+            entry: Entry::Jump { counts },
+            inputs: vec![start],
+            output: pattern(output_len),
+        }
+    }
+
+    /// A format call.
+    pub fn format(store: &[u8]) -> Self {
+        Self {
+            entry: Entry::Format,
+            inputs: Vec::new(),
+            output: store.to_vec(),
+        }
+    }
+
+    /// A take call.
+    pub fn take(key: &[u8], store: &[u8], sold: &Sale) -> Self {
+        let entry = Entry::Take {
+            machine: sold.machine,
+            sale: sold.sale,
+            amount: sold.amount,
+            column: sold.column,
+            means: sold.means,
+        };
+        let buffers = [key, &sold.nonce_tail, &sold.clock];
+        Self {
+            entry,
+            inputs: buffers.map(<[u8]>::to_vec).into(),
+            output: store.to_vec(),
+        }
+    }
+
+    /// A cancel call.
+    pub fn cancel(key: &[u8], store: &[u8], machine: u32, sale: u32) -> Self {
+        Self {
+            entry: Entry::Cancel { machine, sale },
+            inputs: vec![key.to_vec()],
+            output: store.to_vec(),
+        }
+    }
+
+    /// A total call.
+    pub fn total(key: &[u8], store: &[u8]) -> Self {
+        Self {
+            entry: Entry::Total,
+            inputs: vec![key.to_vec(), store.to_vec()],
+            output: pattern(8),
+        }
+    }
+
+    /// A read call.
+    pub fn read(store: &[u8], machine: u32, sale: u32) -> Self {
+        Self {
+            entry: Entry::Read { machine, sale },
+            inputs: vec![store.to_vec()],
+            output: Vec::new(),
+        }
+    }
+
+    /// The input buffers as they are lent.
+    pub fn slices(&self) -> Vec<&[u8]> {
+        self.inputs.iter().map(Vec::as_slice).collect()
+    }
+
+    /// The store of a call that has one.
+    pub fn store_mut(&mut self) -> &mut Vec<u8> {
+        match self.entry {
+            Entry::Format | Entry::Take { .. } | Entry::Cancel { .. } => &mut self.output,
+            Entry::Total => &mut self.inputs[1],
+            Entry::Read { .. } => &mut self.inputs[0],
+            _ => panic!("{self} has no store"),
+        }
+    }
+
+    /// This call on a store of other bytes.
+    pub fn on(&self, store: &[u8]) -> Self {
+        let mut call = self.clone();
+        *call.store_mut() = store.to_vec();
+        call
+    }
+
+    /// What the second implementation seals in a seal call, however short its output is.
+    pub fn parcel(&self) -> Vec<u8> {
+        let mut parcel = vec![0; self.inputs[3].len() + 32];
+        expected(self.entry, &self.slices(), &mut parcel);
+        parcel
+    }
+}
+
+impl fmt::Display for Call {
+    fn fmt(&self, f: &mut fmt::Formatter<'_>) -> fmt::Result {
+        let lengths: Vec<usize> = self.inputs.iter().map(Vec::len).collect();
+        write!(
+            f,
+            "{:?}, inputs of {lengths:?}, output of {}",
+            self.entry,
+            self.output.len()
+        )
+    }
+}
+
+/// What an output holds before a call that does not read it: never the same byte twice in a row.
+pub fn pattern(len: usize) -> Vec<u8> {
+    (0..len).map(|i| (i * 37 + 11) as u8).collect()
+}

@@ -1,0 +1,212 @@
+//! Stores damaged in every way, each under all calls.
+
+use crate::call::{Call, Entry};
+use crate::grounds::STORE_ENTRIES;
+use crate::library::{refusal, Library};
+use crate::met::Met;
+use crate::prng::Prng;
+use crate::report::{Check, Tally};
+use crate::stores::shapes;
+use crate::stores::sound::{sealed, Sound};
+use crate::stores::ways::{Effect, WAYS};
+use reference::store::{BODY_AT, BODY_LEN, CELL_LEN, STORE_LENS};
+
+/// Lengths around those that are allowed.
+const LENGTHS: [usize; 20] = [
+    0, 1, 4, 63, 64, 65, 127, 128, 129, 191, 192, 193, 4096, 65_472, 65_535, 65_536, 65_537,
+    65_599, 65_600, 131_072,
+];
+
+/// Every way alone, every two of them, lengths, every bit of a sale, two sales alike, and all shapes
+/// of small stores.
+pub fn run(library: &Library, seed: u64) -> Tally {
+    let mut prng = Prng::new(seed);
+    let mut run = Run {
+        check: Check::new(library),
+        met: Met::new(&STORE_ENTRIES),
+    };
+    run.one_by_one(&mut prng);
+    run.two_at_once(&mut prng);
+    run.lengths(&mut prng);
+    run.every_bit(&mut prng);
+    run.alike(&mut prng);
+    shapes::run(&mut prng, &mut run.check);
+    run.met.show();
+    run.met.all(&mut run.check.tally);
+    run.check.tally
+}
+
+struct Run<'a> {
+    check: Check<'a>,
+    met: Met,
+}
+
+impl Run<'_> {
+    /// Compares a call. Returns its answer.
+    fn compare(&mut self, call: &Call) -> u64 {
+        let (answer, _) = self.check.compare(call);
+        self.met.add(call, answer);
+        answer
+    }
+
+    /// Compares a call and counts whether it answers `wanted`.
+    fn answers(&mut self, call: &Call, wanted: u64, name: &str) {
+        let answer = self.compare(call);
+        self.check.record(answer == wanted, || {
+            format!("{name}: {call}: answer {answer:#x}, to be {wanted:#x}")
+        });
+    }
+
+    fn one_by_one(&mut self, prng: &mut Prng) {
+        let mut done = [0; WAYS.len()];
+        let small = [2, 3, 4, 5, 6, 9, 17].repeat(4);
+        for cells in small.into_iter().chain([65, 257, 300, 1024]) {
+            for sales in [0, 1, cells / 2, cells - 2, cells - 1] {
+                let sound = Sound::random(prng, cells, sales);
+                self.all_ways(prng, &sound, &mut done);
+            }
+        }
+        for ((name, _), done) in WAYS.iter().zip(done) {
+            self.check
+                .record(done > 0, || format!("{name}: not done once"));
+        }
+    }
+
+    /// All ways that `sound` has room for; `done` counts them.
+    fn all_ways(&mut self, prng: &mut Prng, sound: &Sound, done: &mut [u64; WAYS.len()]) {
+        let calls = sound.calls(prng);
+        let before: Vec<u64> = calls.iter().map(|call| self.compare(call)).collect();
+        for ((name, damage), done) in WAYS.iter().zip(done) {
+            let mut damaged = sound.clone();
+            let Some(effect) = damage(prng, &mut damaged) else {
+                continue;
+            };
+            *done += 1;
+            for (call, &before) in calls.iter().zip(&before) {
+                let call = call.on(&damaged.bytes);
+                match wanted(&call, sound, before, effect) {
+                    Some(wanted) => self.answers(&call, wanted, name),
+                    None => drop(self.compare(&call)),
+                }
+            }
+        }
+    }
+
+    /// One way and another on the same store, or one twice. The second may undo the first.
+    fn two_at_once(&mut self, prng: &mut Prng) {
+        for cells in [3, 4, 6, 12, 40] {
+            let sales = 1 + prng.below(cells - 2);
+            let sound = Sound::random(prng, cells, sales);
+            let calls = sound.calls(prng);
+            for (n, (_, first)) in WAYS.iter().enumerate() {
+                for (_, second) in &WAYS[n..] {
+                    let mut damaged = sound.clone();
+                    first(prng, &mut damaged);
+                    second(prng, &mut damaged);
+                    for call in &calls {
+                        self.compare(&call.on(&damaged.bytes));
+                    }
+                }
+            }
+        }
+    }
+
+    /// Stores with nothing wrong but their lengths.
+    fn lengths(&mut self, prng: &mut Prng) {
+        for len in LENGTHS {
+            let cells = (len / CELL_LEN).max(1);
+            for sales in [0, cells / 3, cells - 1] {
+                let mut store = Sound::random(prng, cells, sales);
+                store.bytes.resize(len, 0);
+                for call in store.calls(prng) {
+                    let answer = self.compare(&call);
+                    let number = answer >> 32;
+                    let passed = number == 3 || (number == 14) != allowed(len);
+                    self.check
+                        .record(passed, || format!("{call}: answer {answer:#x}"));
+                }
+            }
+        }
+    }
+
+    /// A sale with any bit changed opens for no one, and keeps the numbers that it then has.
+    fn every_bit(&mut self, prng: &mut Prng) {
+        let sound = Sound::random(prng, 4, 2);
+        let cell = sound.chains[0][1];
+        for bit in 0..8 * BODY_LEN {
+            let mut damaged = sound.clone();
+            let body = damaged.body_mut(cell);
+            body[bit / 8] ^= 1 << (bit % 8);
+            let number = |at: usize| u32::from_le_bytes(body[at..at + 4].try_into().expect("four"));
+            let (machine, sale) = (number(0), number(4));
+            let (key, store) = (&damaged.key, &damaged.bytes);
+            let shut = refusal(9, cell as u32);
+            let name = format!("bit {bit} of a sale");
+            self.answers(&Call::total(key, store), shut, &name);
+            if (machine, sale) != (sound.sold[0].machine, sound.sold[0].sale) {
+                let cancel = Call::cancel(key, store, machine, sale);
+                self.answers(&cancel, shut, &name);
+            }
+        }
+    }
+
+    /// Of two sales alike the first in the chain counts, also where it does not open.
+    fn alike(&mut self, prng: &mut Prng) {
+        for (first, second) in [(0, 1), (0, 3), (1, 2), (2, 3)] {
+            let mut store = Sound::random(prng, 6, 4);
+            store.sold[second].machine = store.sold[first].machine;
+            store.sold[second].sale = store.sold[first].sale;
+            let body = sealed(&store.key, &store.sold[second]);
+            let [one, other] = [first, second].map(|place| store.chains[0][place]);
+            store.body_mut(other).copy_from_slice(&body);
+            let amount = store.sold[first].amount.into();
+            self.alike_answers(&store, first, [amount, 0]);
+            let mut damaged = store.clone();
+            damaged.body_mut(one)[BODY_LEN - 1] ^= 1;
+            let shut = refusal(9, one as u32);
+            self.alike_answers(&damaged, first, [shut, shut]);
+            let mut damaged = store.clone();
+            damaged.body_mut(other)[BODY_LEN - 1] ^= 1;
+            let shut = refusal(9, other as u32);
+            self.alike_answers(&damaged, first, [amount, shut]);
+        }
+    }
+
+    /// The calls on a store with two sales alike, by the place of the first of them and what cancel
+    /// and total have to answer.
+    fn alike_answers(&mut self, store: &Sound, first: usize, wanted: [u64; 2]) {
+        let (key, bytes, sold) = (&store.key, &store.bytes, &store.sold[first]);
+        let (machine, sale) = (sold.machine, sold.sale);
+        let offset = CELL_LEN * store.chains[0][first] + BODY_AT;
+        let name = "two sales alike";
+        let cancel = Call::cancel(key, bytes, machine, sale);
+        self.answers(&cancel, wanted[0], name);
+        self.answers(&Call::total(key, bytes), wanted[1], name);
+        let read = Call::read(bytes, machine, sale);
+        self.answers(&read, offset as u64, name);
+        let take = Call::take(key, bytes, sold);
+        self.answers(&take, refusal(16, 0), name);
+    }
+}
+
+fn allowed(len: usize) -> bool {
+    STORE_LENS.contains(&len) && len % CELL_LEN == 0
+}
+
+/// What `call` has to answer where `sound` was damaged with that effect, by its answer before.
+fn wanted(call: &Call, sound: &Sound, before: u64, effect: Effect) -> Option<u64> {
+    let answered = before >> 32 == 0;
+    Some(match (effect, call.entry) {
+        (Effect::Other, _) => return None,
+        (_, Entry::Format) if allowed(call.output.len()) => 0,
+        (_, Entry::Format) => refusal(14, 0),
+        (Effect::Form, _) if before != refusal(3, 0) => refusal(14, 0),
+        (Effect::Shut(shut), Entry::Total) if answered => refusal(9, shut as u32),
+        (Effect::Shut(shut), Entry::Cancel { machine, sale })
+            if answered && sound.cell_of(machine, sale) == Some(shut) =>
+        {
+            refusal(9, shut as u32)
+        }
+        _ => before,
+    })
+}

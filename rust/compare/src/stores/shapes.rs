@@ -1,0 +1,83 @@
+//! Every shape of a small store: all heads, next indices and kinds.
+
+use crate::call::Call;
+use crate::prng::Prng;
+use crate::report::Check;
+use crate::stores::sound::{random_sale, sealed, set_index, HEADS, KIND_AT};
+use reference::store::{Sale, BODY_AT, CELL_LEN};
+
+/// Numbers of cells, of kinds that are tried, and of shapes that are sound: as many as ways to put
+/// the cells behind cell 0 in order and to cut the order in two.
+const SIZES: [(usize, usize, usize); 3] = [(2, 3, 2), (3, 3, 2 * 3), (4, 2, 6 * 4)];
+
+/// Compares take, cancel, total and read on every shape, and counts the sound ones.
+pub fn run(prng: &mut Prng, check: &mut Check) {
+    for (cells, kinds, sound) in SIZES {
+        let shapes = Shapes::new(prng, cells, kinds);
+        let found = (0..shapes.count())
+            .filter(|&shape| shapes.compare(check, &shapes.store(shape)))
+            .count();
+        check.record(found == sound, || {
+            format!("{found} sound stores of {cells} cells, to be {sound}")
+        });
+    }
+}
+
+struct Shapes {
+    cells: usize,
+    kinds: usize,
+    key: Vec<u8>,
+    /// What each cell holds, sale or not.
+    sold: Vec<Sale>,
+    bytes: Vec<u8>,
+}
+
+impl Shapes {
+    fn new(prng: &mut Prng, cells: usize, kinds: usize) -> Self {
+        let key = prng.bytes(32);
+        let sold: Vec<Sale> = (0..cells as u32).map(|n| random_sale(prng, 1, n)).collect();
+        let cell = |sold| [vec![0; BODY_AT], sealed(&key, sold)].concat();
+        let bytes = sold.iter().flat_map(cell).collect();
+        Self {
+            cells,
+            kinds,
+            key,
+            sold,
+            bytes,
+        }
+    }
+
+    /// Each index is one of the cells, 0, or the first past the last cell.
+    fn count(&self) -> usize {
+        let indices = (self.cells + 1).pow(self.cells as u32 + 1);
+        indices * self.kinds.pow(self.cells as u32 - 1)
+    }
+
+    /// The store of a shape by its number.
+    fn store(&self, mut shape: usize) -> Vec<u8> {
+        let mut digit = |base: usize| {
+            let digit = shape % base;
+            shape /= base;
+            digit
+        };
+        let mut store = self.bytes.clone();
+        for head in HEADS {
+            set_index(&mut store, head, digit(self.cells + 1));
+        }
+        for cell in store.chunks_exact_mut(CELL_LEN).skip(1) {
+            set_index(cell, 0, digit(self.cells + 1));
+            cell[KIND_AT] = digit(self.kinds) as u8;
+        }
+        store
+    }
+
+    /// Compares the calls on a store. Returns whether total accepts it.
+    fn compare(&self, check: &mut Check, store: &[u8]) -> bool {
+        let (key, sold) = (&self.key, &self.sold[1]);
+        let (machine, sale) = (sold.machine, sold.sale);
+        check.compare(&Call::take(key, store, &self.sold[0]));
+        check.compare(&Call::cancel(key, store, machine, sale));
+        check.compare(&Call::read(store, machine, sale));
+        check.compare(&Call::total(key, store)).0 == 0
+    }
+}

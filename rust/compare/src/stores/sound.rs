@@ -1,0 +1,141 @@
+//! Sound stores in any layout, and all calls on them.
+
+use crate::call::Call;
+use crate::prng::Prng;
+use reference::store::{Sale, BODY_AT, BODY_LEN, CELL_LEN, FREE, ROUNDS, SALE};
+use reference::{seal, MRO, NONCE_LEN};
+
+/// Where in a cell its kind is.
+pub const KIND_AT: usize = 2;
+/// Where in cell 0 the first sale's index is, and the first free index.
+pub const HEADS: [usize; 2] = [0, 2];
+/// The kinds of the two chains.
+const KINDS: [u8; 2] = [SALE, FREE];
+
+/// A store that is as it has to be, and what it was made of.
+#[derive(Clone)]
+pub struct Sound {
+    pub key: Vec<u8>,
+    pub bytes: Vec<u8>,
+    /// The cells of the two chains in their order, sales first.
+    pub chains: [Vec<usize>; 2],
+    /// The sales in the order of their chain, none like another.
+    pub sold: Vec<Sale>,
+}
+
+impl Sound {
+    /// A store of `cells` cells, `sales` of which are sales, the chains in a random order. All
+    /// that is no ground of refusal is random.
+    pub fn random(prng: &mut Prng, cells: usize, sales: usize) -> Self {
+        let mut order: Vec<usize> = (1..cells).collect();
+        prng.shuffle(&mut order);
+        let free = order.split_off(sales);
+        let mut store = Self {
+            key: prng.bytes(32),
+            bytes: prng.bytes(CELL_LEN * cells),
+            chains: [order, free],
+            sold: (0..sales as u32).map(|n| random_sale(prng, 7, n)).collect(),
+        };
+        for chain in [0, 1] {
+            store.link(chain);
+        }
+        for n in 0..sales {
+            let body = sealed(&store.key, &store.sold[n]);
+            store.body_mut(store.chains[0][n]).copy_from_slice(&body);
+        }
+        store
+    }
+
+    /// Writes the indices and the kinds of a chain.
+    fn link(&mut self, chain: usize) {
+        let mut holder = HEADS[chain];
+        for cell in self.chains[chain].clone() {
+            set_index(&mut self.bytes, holder, cell);
+            holder = CELL_LEN * cell;
+            self.bytes[holder + KIND_AT] = KINDS[chain];
+        }
+        set_index(&mut self.bytes, holder, 0);
+    }
+
+    /// The number of cells.
+    pub fn cells(&self) -> usize {
+        self.bytes.len() / CELL_LEN
+    }
+
+    /// The 61 bytes of a cell.
+    pub fn body_mut(&mut self, cell: usize) -> &mut [u8] {
+        &mut self.bytes[CELL_LEN * cell..][BODY_AT..CELL_LEN]
+    }
+
+    /// The cell of a sale.
+    pub fn cell_of(&self, machine: u32, sale: u32) -> Option<usize> {
+        let same = |sold: &Sale| (sold.machine, sold.sale) == (machine, sale);
+        let place = self.sold.iter().position(same)?;
+        Some(self.chains[0][place])
+    }
+
+    /// Every call on this store, those with a sale for its first, its last and one that it has not.
+    pub fn calls(&self, prng: &mut Prng) -> Vec<Call> {
+        let (key, store) = (&self.key, &self.bytes);
+        let absent = random_sale(prng, 7, u32::MAX);
+        let ends = self.sold.first().into_iter().chain(self.sold.last());
+        let mut calls = vec![Call::format(store), Call::total(key, store)];
+        for sold in ends.chain([&absent]) {
+            let (machine, sale) = (sold.machine, sold.sale);
+            calls.push(Call::take(key, store, sold));
+            calls.push(Call::cancel(key, store, machine, sale));
+            calls.push(Call::read(store, machine, sale));
+        }
+        let other = prng.bytes(32);
+        for key in [&other, &key[1..]] {
+            calls.push(Call::take(key, store, &absent));
+            calls.push(Call::total(key, store));
+            let named = self.sold.last().unwrap_or(&absent);
+            calls.push(Call::cancel(key, store, named.machine, named.sale));
+        }
+        calls
+    }
+}
+
+/// A sale of these numbers.
+pub fn random_sale(prng: &mut Prng, machine: u32, sale: u32) -> Sale {
+    let any = prng.next() as u32;
+    Sale {
+        machine,
+        sale,
+        nonce_tail: prng.next().to_le_bytes(),
+        amount: prng.pick(&[any, any % 1000, 0, 1, u32::MAX]),
+        column: prng.next() as u16,
+        means: prng.pick(&[1, 1, 1, 2, 2, 0, 3, 255]),
+        clock: std::array::from_fn(|_| prng.next() as u8),
+    }
+}
+
+/// A sale's nonce, sealed record and tag.
+pub fn sealed(key: &[u8], sold: &Sale) -> Vec<u8> {
+    sealed_by(MRO, ROUNDS, &[], key, sold)
+}
+
+/// The same under other settings.
+pub fn sealed_by(mode: u32, rounds: u32, header: &[u8], key: &[u8], sold: &Sale) -> Vec<u8> {
+    let mut body = [sold.machine, sold.sale].map(u32::to_le_bytes).concat();
+    body.extend(sold.nonce_tail);
+    let mut record = sold.amount.to_le_bytes().to_vec();
+    record.extend(sold.column.to_le_bytes());
+    record.push(sold.means);
+    record.extend(sold.clock);
+    body.resize(BODY_LEN, 0);
+    let (nonce, parcel) = body.split_at_mut(NONCE_LEN);
+    seal(mode, rounds, key, nonce, header, &record, parcel).expect("a sealed record");
+    body
+}
+
+/// The index at `offset`.
+pub fn index(bytes: &[u8], offset: usize) -> usize {
+    usize::from(bytes[offset]) | usize::from(bytes[offset + 1]) << 8
+}
+
+/// Writes an index to `offset`.
+pub fn set_index(bytes: &mut [u8], offset: usize, index: usize) {
+    bytes[offset..offset + 2].copy_from_slice(&(index as u16).to_le_bytes());
+}

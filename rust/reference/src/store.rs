@@ -1,0 +1,281 @@
+//! The sale store. Its bytes are taken apart into two lists of cells, a call works on these lists,
+//! and the bytes are made from them again.
+
+use crate::{check, key_ground, Refusal, MRO, NONCE_LEN, TAG_LEN};
+use std::iter::{once, successors};
+use std::ops::RangeInclusive;
+
+/// Bytes of a cell.
+pub const CELL_LEN: usize = 64;
+/// The lengths of a store, of which every multiple of a cell is allowed.
+pub const STORE_LENS: RangeInclusive<usize> = 128..=65_536;
+/// Where in a cell its body begins, behind its next index and its kind.
+pub const BODY_AT: usize = 3;
+/// Bytes of a body: nonce, sealed record and tag.
+pub const BODY_LEN: usize = CELL_LEN - BODY_AT;
+/// The kind of a free cell.
+pub const FREE: u8 = 0;
+/// The kind of a sale.
+pub const SALE: u8 = 1;
+/// The rounds under which records are sealed.
+pub const ROUNDS: u32 = 6;
+/// Bytes of a nonce behind the two numbers.
+pub const NONCE_TAIL_LEN: usize = 8;
+/// Bytes of a clock.
+pub const CLOCK_LEN: usize = 6;
+/// The means that the cash total counts.
+pub const COIN: u8 = 1;
+
+/// Bytes of the two heads, with which cell 0 begins.
+const HEADS_LEN: usize = 4;
+/// Bytes of a record.
+const RECORD_LEN: usize = BODY_LEN - NONCE_LEN - TAG_LEN;
+
+/// A store that is not as it has to be.
+const FORM: u32 = 14;
+/// No free cell.
+const FULL: u32 = 15;
+/// A sale that is there already, or is not there.
+const NUMBERS: u32 = 16;
+
+/// A sale as it is handed in.
+#[derive(Clone, Copy, Debug, PartialEq, Eq)]
+pub struct Sale {
+    /// The machine's number.
+    pub machine: u32,
+    /// The sale's number.
+    pub sale: u32,
+    /// The nonce behind the two numbers.
+    pub nonce_tail: [u8; NONCE_TAIL_LEN],
+    /// In cents.
+    pub amount: u32,
+    /// The column sold from.
+    pub column: u16,
+    /// [`COIN`], or another.
+    pub means: u8,
+    /// Carried unread.
+    pub clock: [u8; CLOCK_LEN],
+}
+
+impl Sale {
+    /// Nonce, sealed record and tag.
+    fn seal(&self, key: &[u8]) -> Result<Vec<u8>, Refusal> {
+        let nonce = [name(self.machine, self.sale), self.nonce_tail.to_vec()].concat();
+        let record = [
+            &self.amount.to_le_bytes()[..],
+            &self.column.to_le_bytes(),
+            &[self.means],
+            &self.clock,
+        ]
+        .concat();
+        let mut parcel = vec![0; RECORD_LEN + TAG_LEN];
+        crate::seal(MRO, ROUNDS, key, &nonce, &[], &record, &mut parcel)?;
+        Ok([nonce, parcel].concat())
+    }
+}
+
+/// What the nonce of a sale begins with.
+fn name(machine: u32, sale: u32) -> Vec<u8> {
+    [machine.to_le_bytes(), sale.to_le_bytes()].concat()
+}
+
+/// Makes every cell free. Returns 0.
+pub fn format(store: &mut [u8]) -> Result<usize, Refusal> {
+    check_length(store)?;
+    let zeros = |number| Cell {
+        number,
+        body: vec![0; BODY_LEN],
+    };
+    let formatted = Store {
+        rest: vec![0; CELL_LEN - HEADS_LEN],
+        sales: Vec::new(),
+        free: (1..store.len() / CELL_LEN).map(zeros).collect(),
+    };
+    formatted.write(store);
+    Ok(0)
+}
+
+/// Puts a sale into the first free cell. Returns the cell.
+pub fn take(key: &[u8], store: &mut [u8], sale: &Sale) -> Result<usize, Refusal> {
+    check(&[key_ground(key)])?;
+    let mut taken = Store::parse(store)?;
+    check(&[
+        (taken.find(sale.machine, sale.sale).is_some(), NUMBERS),
+        (taken.free.is_empty(), FULL),
+    ])?;
+    let number = taken.free.remove(0).number;
+    let body = sale.seal(key)?;
+    taken.sales.insert(0, Cell { number, body });
+    taken.write(store);
+    Ok(number)
+}
+
+/// Frees the cell of a sale. Returns the amount.
+pub fn cancel(key: &[u8], store: &mut [u8], machine: u32, sale: u32) -> Result<u32, Refusal> {
+    check(&[key_ground(key)])?;
+    let mut cancelled = Store::parse(store)?;
+    let found = cancelled.find(machine, sale).ok_or((NUMBERS, 0))?;
+    let opened = cancelled.sales[found].open(key)?;
+    let mut cell = cancelled.sales.remove(found);
+    cell.body.fill(0);
+    cancelled.free.insert(0, cell);
+    cancelled.write(store);
+    Ok(opened.amount)
+}
+
+/// The sum of the amounts of all sales whose means is coin.
+pub fn total(key: &[u8], store: &[u8]) -> Result<u64, Refusal> {
+    check(&[key_ground(key)])?;
+    let sales = Store::parse(store)?.sales;
+    let opened: Result<Vec<Opened>, Refusal> = sales.iter().map(|cell| cell.open(key)).collect();
+    let coins = opened?.into_iter().filter(|sale| sale.means == COIN);
+    Ok(coins.map(|sale| u64::from(sale.amount)).sum())
+}
+
+/// The offset in the store at which the body of a sale begins.
+pub fn read(store: &[u8], machine: u32, sale: u32) -> Result<usize, Refusal> {
+    let sound = Store::parse(store)?;
+    let found = sound.find(machine, sale).ok_or((NUMBERS, 0))?;
+    Ok(CELL_LEN * sound.sales[found].number + BODY_AT)
+}
+
+/// A sound store: each chain is a list, its first cell first.
+struct Store {
+    /// Cell 0 behind the two heads.
+    rest: Vec<u8>,
+    sales: Vec<Cell>,
+    free: Vec<Cell>,
+}
+
+/// A cell of a list. Nothing is asked of the body of a free one.
+struct Cell {
+    number: usize,
+    body: Vec<u8>,
+}
+
+/// What the store needs of an opened record.
+struct Opened {
+    amount: u32,
+    means: u8,
+}
+
+impl Cell {
+    /// Refused with this cell where the tag differs.
+    fn open(&self, key: &[u8]) -> Result<Opened, Refusal> {
+        let (nonce, parcel) = self.body.split_at(NONCE_LEN);
+        let mut record = [0; RECORD_LEN];
+        crate::open(MRO, ROUNDS, key, nonce, &[], parcel, &mut record)
+            .map_err(|(refused, _)| (refused, self.number as u32))?;
+        let [a, b, c, d, _, _, means, ..] = record;
+        let amount = u32::from_le_bytes([a, b, c, d]);
+        Ok(Opened { amount, means })
+    }
+}
+
+impl Store {
+    fn parse(bytes: &[u8]) -> Result<Self, Refusal> {
+        check_length(bytes)?;
+        let cells = Cells::parse(bytes);
+        let [sales, free] = [0, 2].map(|head| cells.chain(index(&bytes[head..])));
+        let both = [&sales[..], &free].concat();
+        let past_the_last = both.iter().any(|&number| number >= cells.0.len());
+        let unfit = cells.unfit(&sales, SALE) || cells.unfit(&free, FREE);
+        let other_than_once = !cells.each_once(both);
+        check(&[
+            (past_the_last, FORM),
+            (unfit, FORM),
+            (other_than_once, FORM),
+        ])?;
+        Ok(Self {
+            rest: bytes[HEADS_LEN..CELL_LEN].to_vec(),
+            sales: cells.list(sales),
+            free: cells.list(free),
+        })
+    }
+
+    /// Where in the list of sales the first one of these numbers is.
+    fn find(&self, machine: u32, sale: u32) -> Option<usize> {
+        let name = name(machine, sale);
+        self.sales
+            .iter()
+            .position(|cell| cell.body.starts_with(&name))
+    }
+
+    fn write(&self, bytes: &mut [u8]) {
+        let head = |list: &[Cell]| two_bytes(list.first().map_or(0, |cell| cell.number));
+        let heads = [head(&self.sales), head(&self.free)].concat();
+        let mut cells = vec![[heads, self.rest.clone()].concat()];
+        cells.resize(bytes.len() / CELL_LEN, Vec::new());
+        for (kind, list) in [(SALE, &self.sales), (FREE, &self.free)] {
+            let nexts = list.iter().skip(1).map(|cell| cell.number).chain(once(0));
+            for (cell, next) in list.iter().zip(nexts) {
+                cells[cell.number] = [&two_bytes(next)[..], &[kind], &cell.body].concat();
+            }
+        }
+        bytes.copy_from_slice(&cells.concat());
+    }
+}
+
+/// Every cell by its number, sound or not.
+struct Cells<'a>(Vec<Raw<'a>>);
+
+/// What stands in a cell.
+struct Raw<'a> {
+    next: usize,
+    kind: u8,
+    body: &'a [u8],
+}
+
+impl<'a> Cells<'a> {
+    fn parse(bytes: &'a [u8]) -> Self {
+        let raw = |cell: &'a [u8]| Raw {
+            next: index(cell),
+            kind: cell[2],
+            body: &cell[BODY_AT..],
+        };
+        Self(bytes.chunks_exact(CELL_LEN).map(raw).collect())
+    }
+
+    /// The cells met from `head` on. One past the last cell is the last that is met, and a chain
+    /// that never ends is cut where some cell must have been met twice.
+    fn chain(&self, head: usize) -> Vec<usize> {
+        successors(Some(head), |&number| Some(self.0.get(number)?.next))
+            .take_while(|&number| number != 0)
+            .take(self.0.len())
+            .collect()
+    }
+
+    /// Some cell of `chain` has another kind.
+    fn unfit(&self, chain: &[usize], kind: u8) -> bool {
+        let mut cells = chain.iter().filter_map(|&number| self.0.get(number));
+        cells.any(|cell| cell.kind != kind)
+    }
+
+    /// Every cell but 0 is in `numbers`, and none is twice.
+    fn each_once(&self, mut numbers: Vec<usize>) -> bool {
+        numbers.sort_unstable();
+        numbers.into_iter().eq(1..self.0.len())
+    }
+
+    fn list(&self, chain: Vec<usize>) -> Vec<Cell> {
+        let cell = |number: usize| Cell {
+            number,
+            body: self.0[number].body.to_vec(),
+        };
+        chain.into_iter().map(cell).collect()
+    }
+}
+
+fn check_length(store: &[u8]) -> Result<(), Refusal> {
+    let allowed = STORE_LENS.contains(&store.len()) && store.len() % CELL_LEN == 0;
+    check(&[(!allowed, FORM)])
+}
+
+/// The index with which `bytes` begin.
+fn index(bytes: &[u8]) -> usize {
+    usize::from(u16::from_le_bytes([bytes[0], bytes[1]]))
+}
+
+fn two_bytes(index: usize) -> Vec<u8> {
+    (index as u16).to_le_bytes().to_vec()
+}

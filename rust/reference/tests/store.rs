@@ -1,0 +1,266 @@
+//! The five calls of the store on small stores written by hand.
+
+use reference::store::{cancel, format, read, take, total, Sale, BODY_LEN, CELL_LEN};
+use reference::{seal, MRO};
+
+const KEY: [u8; 32] = [0x42; 32];
+const OTHER_KEY: [u8; 32] = [0x43; 32];
+
+/// A store by the four bytes each cell begins with, which 60 bytes of `fill` follow.
+fn store(cells: &[[u8; 4]], fill: u8) -> Vec<u8> {
+    let cell = |first: &[u8; 4]| [&first[..], &[fill; 60]].concat();
+    cells.iter().flat_map(cell).collect()
+}
+
+fn formatted(cells: usize) -> Vec<u8> {
+    let mut store = vec![0xee; CELL_LEN * cells];
+    assert_eq!(format(&mut store), Ok(0));
+    store
+}
+
+fn sale(number: u32, amount: u32, means: u8) -> Sale {
+    Sale {
+        machine: 7,
+        sale: number,
+        nonce_tail: *b"8 bytes.",
+        amount,
+        column: 0x0102,
+        means,
+        clock: *b"6 byte",
+    }
+}
+
+/// A store in which `sales` were taken one after the other.
+fn with(cells: usize, sales: &[Sale]) -> Vec<u8> {
+    let mut store = formatted(cells);
+    for (n, sale) in sales.iter().enumerate() {
+        assert_eq!(take(&KEY, &mut store, sale), Ok(n + 1));
+    }
+    store
+}
+
+/// The answers of take, cancel, total and read with good arguments.
+fn refusals(store: &[u8]) -> [Option<(u32, u32)>; 4] {
+    let mut lent = store.to_vec();
+    let answers = [
+        take(&KEY, &mut lent, &sale(900, 1, 1)).err(),
+        cancel(&KEY, &mut lent, 7, 901).err(),
+        total(&KEY, &lent).err(),
+        read(&lent, 7, 901).err(),
+    ];
+    if answers[0].is_some() {
+        assert_eq!(lent, store);
+    }
+    answers
+}
+
+/// The answers of a sound store with room and without the sale that is asked for.
+const SOUND: [Option<(u32, u32)>; 4] = [None, Some((16, 0)), None, Some((16, 0))];
+
+#[test]
+fn a_formatted_store_is_chained_upward() {
+    assert_eq!(formatted(2), store(&[[0, 0, 1, 0], [0; 4]], 0));
+    let four = [[0, 0, 1, 0], [2, 0, 0, 0], [3, 0, 0, 0], [0; 4]];
+    assert_eq!(formatted(4), store(&four, 0));
+    assert_eq!(formatted(1024)[CELL_LEN * 255..][..3], [0, 1, 0]);
+}
+
+#[test]
+fn lengths() {
+    for len in [0, 64, 127, 129, 65_472 + 63, 65_600] {
+        let mut bytes = vec![0; len];
+        assert_eq!(format(&mut bytes), Err((14, 0)), "{len}");
+        assert_eq!(refusals(&bytes), [Some((14, 0)); 4], "{len}");
+    }
+    for len in [128, 192, 65_472, 65_536] {
+        let mut bytes = vec![0xee; len];
+        assert_eq!(format(&mut bytes), Ok(0), "{len}");
+        assert_eq!(refusals(&bytes), SOUND, "{len}");
+    }
+}
+
+#[test]
+fn a_sale_goes_to_the_first_free_cell_and_to_the_front() {
+    let taken = with(4, &[sale(1, 150, 1), sale(2, 250, 2)]);
+    let heads = [[2, 0, 3, 0], [0, 0, 1, 7], [1, 0, 1, 7], [0; 4]];
+    for (cell, head) in taken.chunks_exact(CELL_LEN).zip(heads) {
+        assert_eq!(cell[..4], head);
+    }
+    let nonce = [7, 0, 0, 0, 2, 0, 0, 0, b'8', b' ', b'b', b'y'];
+    assert_eq!(taken[2 * CELL_LEN + 3..][..12], nonce);
+}
+
+#[test]
+fn records_are_sealed_by_mro_with_six_rounds_and_no_header() {
+    let taken = with(2, &[sale(0x0a0b_0c0d, 0x1122_3344, 9)]);
+    let nonce = b"\x07\0\0\0\x0d\x0c\x0b\x0a8 bytes.";
+    let record = b"\x44\x33\x22\x11\x02\x01\x096 byte";
+    let mut parcel = [0; 45];
+    assert_eq!(
+        seal(MRO, 6, &KEY, nonce, &[], record, &mut parcel),
+        Ok(parcel.len())
+    );
+    assert_eq!(taken[CELL_LEN + 3..], [&nonce[..], &parcel].concat());
+}
+
+#[test]
+fn cancelling_gives_the_amount_and_the_cell_back() {
+    let sales = [sale(1, 10, 1), sale(2, 20, 2), sale(3, 30, 1)];
+    for (number, heads) in [
+        (1, [[3, 0, 1, 0], [4, 0, 0, 0], [0, 0, 1, 7], [2, 0, 1, 7]]),
+        (2, [[3, 0, 2, 0], [0, 0, 1, 7], [4, 0, 0, 0], [1, 0, 1, 7]]),
+        (3, [[2, 0, 3, 0], [0, 0, 1, 7], [1, 0, 1, 7], [4, 0, 0, 0]]),
+    ] {
+        let before = with(5, &sales);
+        let mut after = before.clone();
+        assert_eq!(cancel(&KEY, &mut after, 7, number), Ok(10 * number));
+        for (n, head) in heads.into_iter().enumerate() {
+            let cell = &after[CELL_LEN * n..][..CELL_LEN];
+            assert_eq!(cell[..4], head, "{number}, cell {n}");
+            let rest = if n == number as usize {
+                &[0; 60]
+            } else {
+                &before[CELL_LEN * n + 4..][..60]
+            };
+            assert_eq!(&cell[4..], rest, "{number}, cell {n}");
+        }
+        assert_eq!(cancel(&KEY, &mut after, 7, number), Err((16, 0)));
+    }
+}
+
+#[test]
+fn the_total_is_over_coins_and_passes_32_bits() {
+    let coins = [sale(1, u32::MAX, 1), sale(2, 5, 2), sale(3, u32::MAX, 1)];
+    let mut store = with(5, &coins);
+    assert_eq!(total(&KEY, &store), Ok(2 * u64::from(u32::MAX)));
+    assert_eq!(take(&KEY, &mut store, &sale(4, 6, 0)), Ok(4));
+    assert_eq!(total(&KEY, &store), Ok(2 * u64::from(u32::MAX)));
+    assert_eq!(cancel(&KEY, &mut store, 7, 1), Ok(u32::MAX));
+    assert_eq!(total(&KEY, &store), Ok(u64::from(u32::MAX)));
+}
+
+#[test]
+fn reading_gives_the_place_of_61_bytes() {
+    let taken = with(3, &[sale(1, 10, 1), sale(2, 20, 2)]);
+    assert_eq!(read(&taken, 7, 1), Ok(CELL_LEN + 3));
+    assert_eq!(read(&taken, 7, 2), Ok(2 * CELL_LEN + 3));
+    assert_eq!(read(&taken, 8, 1), Err((16, 0)));
+    assert_eq!(BODY_LEN, 61);
+}
+
+#[test]
+fn order_of_the_checks() {
+    let full = with(2, &[sale(1, 10, 1)]);
+    let mut broken = full.clone();
+    broken[CELL_LEN + 2] = 2;
+    for (store, grounds) in [(&full, [16, 15]), (&broken, [14, 14])] {
+        let mut lent = store.clone();
+        let taking = |key, lent: &mut [u8], number| take(key, lent, &sale(number, 1, 1));
+        assert_eq!(taking(&KEY[1..], &mut lent, 1), Err((3, 0)));
+        assert_eq!(taking(&KEY, &mut lent, 1), Err((grounds[0], 0)));
+        assert_eq!(taking(&KEY, &mut lent, 2), Err((grounds[1], 0)));
+        assert_eq!(&lent, store);
+    }
+    assert_eq!(cancel(&[], &mut broken, 7, 1), Err((3, 0)));
+    assert_eq!(cancel(&KEY, &mut broken, 7, 1), Err((14, 0)));
+    assert_eq!(total(&[0; 33], &broken), Err((3, 0)));
+    assert_eq!(total(&OTHER_KEY, &broken), Err((14, 0)));
+    assert_eq!(read(&broken, 7, 1), Err((14, 0)));
+}
+
+#[test]
+fn the_first_sale_that_had_to_open() {
+    let mut store = with(4, &[sale(1, 10, 1), sale(2, 20, 2), sale(3, 30, 1)]);
+    assert_eq!(total(&OTHER_KEY, &store), Err((9, 3)));
+    assert_eq!(cancel(&OTHER_KEY, &mut store, 7, 1), Err((9, 1)));
+    store[2 * CELL_LEN + 40] ^= 1;
+    assert_eq!(total(&KEY, &store), Err((9, 2)));
+    let before = store.clone();
+    assert_eq!(cancel(&KEY, &mut store, 7, 2), Err((9, 2)));
+    assert_eq!(store, before);
+    assert_eq!(cancel(&KEY, &mut store, 7, 1), Ok(10));
+}
+
+#[test]
+fn of_two_alike_the_first_counts() {
+    let mut store = with(4, &[sale(1, 10, 1), sale(2, 20, 1)]);
+    let (first, second) = store.split_at_mut(2 * CELL_LEN);
+    second[2..CELL_LEN].copy_from_slice(&first[CELL_LEN + 2..]);
+    assert_eq!(total(&KEY, &store), Ok(20));
+    assert_eq!(read(&store, 7, 1), Ok(2 * CELL_LEN + 3));
+    assert_eq!(take(&KEY, &mut store, &sale(1, 1, 1)), Err((16, 0)));
+    let mut damaged = store.clone();
+    damaged[2 * CELL_LEN + 63] ^= 1;
+    assert_eq!(cancel(&KEY, &mut damaged, 7, 1), Err((9, 2)));
+    assert_eq!(cancel(&KEY, &mut store, 7, 1), Ok(10));
+    assert_eq!(read(&store, 7, 1), Ok(CELL_LEN + 3));
+}
+
+#[test]
+fn what_is_no_ground() {
+    let cells = [[0, 0, 2, 0], [0, 0, 0, 9], [1, 0, 0, 9]];
+    assert_eq!(refusals(&store(&cells, 0xee)), SOUND);
+    let mut lent = store(&cells, 0xee);
+    assert_eq!(take(&KEY, &mut lent, &sale(1, 10, 1)), Ok(2));
+    let before = store(&cells, 0xee);
+    assert_eq!(lent[..4], [2, 0, 1, 0]);
+    assert_eq!(lent[4..2 * CELL_LEN], before[4..2 * CELL_LEN]);
+    assert_eq!(cancel(&KEY, &mut lent, 7, 1), Ok(10));
+    assert_eq!(lent[..2 * CELL_LEN + 2], before[..2 * CELL_LEN + 2]);
+    assert_eq!(lent[2 * CELL_LEN + 2..], [0; 62]);
+}
+
+#[test]
+fn stores_of_another_form() {
+    let sound = ([1, 2], [(0, 1), (3, 0), (0, 0)]);
+    assert_eq!(
+        refusals(&chained(sound)),
+        [None, SOUND[1], Some((9, 1)), SOUND[3]]
+    );
+    let broken = [
+        (
+            "a head past the last cell",
+            ([4, 2], [(0, 1), (3, 0), (0, 0)]),
+        ),
+        (
+            "a head with a high byte",
+            ([1, 258], [(0, 1), (3, 0), (0, 0)]),
+        ),
+        (
+            "a next past the last cell",
+            ([1, 2], [(0, 1), (3, 0), (4, 0)]),
+        ),
+        (
+            "a next far past it",
+            ([1, 2], [(65_535, 1), (3, 0), (0, 0)]),
+        ),
+        ("a head that is 0", ([1, 0], [(0, 1), (3, 0), (0, 0)])),
+        ("a next that is 0", ([1, 2], [(0, 1), (0, 0), (0, 0)])),
+        ("a cell behind itself", ([1, 2], [(0, 1), (3, 0), (3, 0)])),
+        ("a cycle", ([1, 2], [(0, 1), (3, 0), (2, 0)])),
+        ("a cycle apart", ([1, 0], [(0, 1), (3, 0), (2, 0)])),
+        ("a cell left out", ([1, 3], [(0, 1), (3, 0), (0, 0)])),
+        ("two heads alike", ([2, 2], [(0, 1), (3, 0), (0, 0)])),
+        ("a shared tail", ([1, 2], [(3, 1), (3, 0), (0, 0)])),
+        (
+            "the other chain behind a sale",
+            ([1, 0], [(2, 1), (3, 0), (0, 0)]),
+        ),
+        ("the chains exchanged", ([2, 1], [(0, 1), (3, 0), (0, 0)])),
+        ("kind 2 as a sale", ([1, 2], [(0, 2), (3, 0), (0, 0)])),
+        ("kind 0 as a sale", ([1, 2], [(0, 0), (3, 0), (0, 0)])),
+        ("kind 1 as free", ([1, 2], [(0, 1), (3, 0), (0, 1)])),
+        ("kind 255 as free", ([1, 2], [(0, 1), (3, 255), (0, 0)])),
+    ];
+    for (name, cells) in broken {
+        assert_eq!(refusals(&chained(cells)), [Some((14, 0)); 4], "{name}");
+    }
+}
+
+/// The two heads, and three cells by their next index and kind. No sale in it opens.
+fn chained((heads, cells): ([u16; 2], [(u16, u8); 3])) -> Vec<u8> {
+    let [sales, free] = heads.map(u16::to_le_bytes);
+    let mut first = vec![[sales[0], sales[1], free[0], free[1]]];
+    first.extend(cells.map(|(next, kind)| [next as u8, (next >> 8) as u8, kind, 0xee]));
+    store(&first, 0xee)
+}
