@@ -192,7 +192,7 @@ planted "rounds that no check tries" \
     's/= check_settings(mode, rounds,/= check_settings(mode, rounds == 8 ? 4 : rounds,/' \
     "$root/tools/check-stack.sh" "$faulty"
 planted "a deep stack in the store" \
-    '/^static int well_formed/,/^}/s/sales = follow/volatile uint8_t deep[5000]; deep[0] = 0; &/' \
+    '/^static int well_formed/,/^}/s/sales = follow/volatile uint8_t deep[9000]; deep[0] = 0; &/' \
     "$root/tools/check-stack.sh" "$faulty"
 planted "a call outside" \
     '/^uint64_t baseline_walk/,/^}/s/load(m, start);/extern int puts(const char *); puts("walk"); &/' \
