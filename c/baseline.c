@@ -6,7 +6,7 @@ enum { WORDS = 16, BLOCK = 128, RUN = 16 };
 enum { MAX_HEADER = 4096, MAX_MESSAGE = 65536, MAX_STEPS = 4096, MAX_COUNT = 65536 };
 
 /* The round counts that seal and open take. */
-static const uint32_t ROUNDS[] = {4, 6};
+static const uint32_t ROUNDS[] = {4, 6, 8, 12};
 
 /* Words and blocks. */
 

@@ -32,9 +32,9 @@
 #include <stdint.h>
 
 /* The version, as text and as one number that grows. */
-#define CALMBAIZE_VERSION "0.2.0"
+#define CALMBAIZE_VERSION "0.3.0"
 #define CALMBAIZE_VERSION_MAJOR 0
-#define CALMBAIZE_VERSION_MINOR 2
+#define CALMBAIZE_VERSION_MINOR 3
 #define CALMBAIZE_VERSION_PATCH 0
 #define CALMBAIZE_VERSION_NUMBER \
     (CALMBAIZE_VERSION_MAJOR * 1000000 + CALMBAIZE_VERSION_MINOR * 1000 + CALMBAIZE_VERSION_PATCH)
@@ -100,6 +100,12 @@ extern "C" {
 #define CALMBAIZE_MODE_OPP 1U
 #define CALMBAIZE_MODE_MRO 2U
 
+/*
+ * Rounds of the permutation are a plain number: 4, 6, 8 or 12. Time grows with
+ * them. A parcel must be opened with the count that sealed it; the store's sales
+ * are sealed with six.
+ */
+
 /* Step bytes. */
 #define CALMBAIZE_STEP_ALPHA 1U
 #define CALMBAIZE_STEP_BETA 2U
@@ -115,7 +121,7 @@ extern "C" {
 /* Refusals. */
 #define CALMBAIZE_OK 0U                       /* nothing refused */
 #define CALMBAIZE_REFUSED_MODE 1U             /* mode not 1 or 2 */
-#define CALMBAIZE_REFUSED_ROUNDS 2U           /* rounds not 4 or 6 */
+#define CALMBAIZE_REFUSED_ROUNDS 2U           /* rounds not 4, 6, 8 or 12 */
 #define CALMBAIZE_REFUSED_KEY_LENGTH 3U       /* key not 32 bytes */
 #define CALMBAIZE_REFUSED_NONCE_LENGTH 4U     /* nonce not 16 bytes */
 #define CALMBAIZE_REFUSED_HEADER_TOO_LONG 5U  /* header over 4,096 bytes */

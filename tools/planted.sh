@@ -189,7 +189,7 @@ planted "a deep stack" \
     '/^static void start_block/,/^}/s/load(start, bytes);/volatile uint8_t deep[9000]; deep[0] = 0; &/' \
     "$root/tools/check-stack.sh" "$faulty"
 planted "rounds that no check tries" \
-    's/= check_settings(mode, rounds,/= check_settings(mode, rounds == 8 ? 4 : rounds,/' \
+    's/= check_settings(mode, rounds,/= check_settings(mode, rounds == 10 ? 4 : rounds,/' \
     "$root/tools/check-stack.sh" "$faulty"
 planted "a deep stack in the store" \
     '/^static int well_formed/,/^}/s/sales = follow/volatile uint8_t deep[9000]; deep[0] = 0; &/' \

@@ -3,6 +3,6 @@
 #include <stdint.h>
 
 static const uint32_t modes[] = {1, 2};
-static const uint32_t round_counts[] = {4, 6};
+static const uint32_t round_counts[] = {4, 6, 8, 12};
 
 #define COUNT(list) (sizeof(list) / sizeof(list)[0])

@@ -21,12 +21,6 @@ module _ (mode rounds key nonce header : ℕ) where
   settings-clear : (next : Check) → settings mode rounds key nonce header next ≡ Clear → (settings mode rounds key nonce header Clear ≡ Clear) × (next ≡ Clear)
   settings-clear next e = after-clear (settings mode rounds key nonce header Clear) next (sym (settings-after next) ∙ e)
 
-  pub settings-rounds : settings mode rounds key nonce header Clear ≡ Clear → isRounds rounds ≡ true
-  unfolding settings
-  settings-rounds e =
-      let a = line-clear (not (isMode mode)) Mode _ e in
-      not-false (isRounds rounds) (line-clear (not (isRounds rounds)) Rounds _ (a .1) .0)
-
   settings-lengths : settings mode rounds key nonce header Clear ≡ Clear → (key ≡ 32) × (nonce ≡ 16)
   unfolding settings
   settings-lengths e =

@@ -1,5 +1,6 @@
 -- The checks of seal and open, over settings and lengths alone (document 01, "Entry points and where each call is checked"). Assumes nothing.
-use mathlib.Core.Bool.{Bool, not, _||_}
+use mathlib.Core.Bool.{Bool, false, not, _||_}
+use mathlib.Core.List.{List, [], _∷_}
 use Prim.Native.Nat.{ℕ, _+_, _-_}
 use lib.Dec.{eqb, ltb}
 use Rattle.answers.specs.Answers.{line, room}
@@ -11,9 +12,14 @@ use Rattle.answers.specs.declared.Ground.the-variants.{Mode, Rounds, KeyLength,
 unfoldable pub isMode : ℕ → Bool
 isMode mode = eqb mode 1 || eqb mode 2
 
--- rounds 4 or 6
+-- one of the numbers of a list
+unfoldable pub isOneOf : List ℕ → ℕ → Bool
+isOneOf [] n = false
+isOneOf (k ∷ ks) n = eqb n k || isOneOf ks n
+
+-- rounds 4, 6, 8 or 12 (document 02, card 2)
 unfoldable pub isRounds : ℕ → Bool
-isRounds rounds = eqb rounds 4 || eqb rounds 6
+isRounds rounds = isOneOf (4 ∷ 6 ∷ 8 ∷ 12 ∷ []) rounds
 
 -- seal, open, first to fifth: mode, rounds, and the lengths of key, nonce and header; then the checks behind them
 unfoldable pub settings : ℕ → ℕ → ℕ → ℕ → ℕ → Check → Check

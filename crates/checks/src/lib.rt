@@ -18,11 +18,14 @@ fn is_mode(mode: u32) -> bool
     mode == 1 || mode == 2
 }
 
-// Rounds 4 or 6.
+// Rounds 4, 6, 8 or 12.
 fn is_rounds(rounds: u32) -> bool
     ensures { λ r. ⌜ r ≡ isRounds rounds ⌝ }
 {
-    rounds == 4 || rounds == 6
+    match rounds {
+        4 | 6 | 8 | 12 => true,
+        _ => false,
+    }
 }
 
 // The lengths of a call's inputs; the last is the message or the parcel.

@@ -19,8 +19,8 @@ use Rattle.mem.proofs.Laws.{start-block}
 use Rattle.blockplan.specs.Parcel.{Mode, parcelOf, messageOf, genuine, opened}
 use Rattle.blockplan.specs.Lawful.{Lawful}
 use Rattle.blockplan.proofs.Parcels.{parcel-long, parcel-bytes, parcel-message, parcel-genuine, message-long, message-bytes, message-parcel}
-use Rattle.checks.specs.Checks.{isRounds, sealChecks, openChecks}
-use Rattle.checks.proofs.Clears.{settings-rounds, seal-after, open-after, seal-inputs, open-inputs, parcel-inputs, message-inputs}
+use Rattle.checks.specs.Checks.{sealChecks, openChecks}
+use Rattle.checks.proofs.Clears.{seal-after, open-after, open-inputs, parcel-inputs, message-inputs}
 use Rattle.modes.specs.Modes.{modeOf}
 use Rattle.modes.proofs.Lawful.{mode-lawful}
 use Rattle.sealing.specs.Sealing.{verdict, sealFrom, openFrom}
@@ -35,17 +35,18 @@ roomy : (needed lent : ℕ) → needed ≤ lent → room needed lent Clear ≡ C
 unfolding room line lineAt
 roomy needed lent h = rw (le-ltb lent needed h)
 
--- a start that is a block, for allowed round counts
+-- a start that is a block, for every round count
 abbrev Blocks : (ℕ → List ℕ → List ℕ → List ℕ) → Type 0
-Blocks start = (rounds : ℕ) (key nonce : List ℕ) → isRounds rounds ≡ true → Bytes key → Bytes nonce → Block (start rounds key nonce)
+Blocks start = (rounds : ℕ) (key nonce : List ℕ) → Bytes key → Bytes nonce → Block (start rounds key nonce)
 
 module _ (start : ℕ → List ℕ → List ℕ → List ℕ) (is-block : Blocks start) (mode rounds : ℕ) (key nonce header : List ℕ) where
   m : Mode
   m = modeOf mode rounds (start rounds key nonce)
 
-  law : isRounds rounds ≡ true → Bytes key → Bytes nonce → Lawful m
+  -- the mode is lawful for every round count: the allowed ones play no part
+  law : Bytes key → Bytes nonce → Lawful m
   unfolding m
-  law allowed hk hn = mode-lawful mode rounds (start rounds key nonce) (is-block rounds key nonce allowed hk hn)
+  law hk hn = mode-lawful mode rounds (start rounds key nonce) (is-block rounds key nonce hk hn)
 
   seals : (message : List ℕ) → Sealable mode rounds key nonce header message → Seals start mode rounds key nonce header message (parcelOf m header message)
   unfolding m sealFrom sealChecks checked
@@ -56,7 +57,7 @@ module _ (start : ℕ → List ℕ → List ℕ → List ℕ) (is-block : Blocks
     inputs = open-inputs _ _ _ _ _ _ (𝓟 .clear) .1
 
     law-here : Lawful m
-    law-here = law (settings-rounds _ _ _ _ _ (open-inputs _ _ _ _ _ _ (𝓟 .clear) .0)) (𝓟 .key-bytes) (𝓟 .nonce-bytes)
+    law-here = law (𝓟 .key-bytes) (𝓟 .nonce-bytes)
 
     long : length (messageOf m parcel) ≡ length parcel - 32
     long = message-long m law-here header parcel (inputs .0)
@@ -84,7 +85,7 @@ module _ (start : ℕ → List ℕ → List ℕ → List ℕ) (is-block : Blocks
 
   module _ (message : List ℕ) (𝓜 : Sealable mode rounds key nonce header message) where
     law-there : Lawful m
-    law-there = law (settings-rounds _ _ _ _ _ (seal-inputs _ _ _ _ _ _ (𝓜 .clear) .0)) (𝓜 .key-bytes) (𝓜 .nonce-bytes)
+    law-there = law (𝓜 .key-bytes) (𝓜 .nonce-bytes)
 
     parcel-is : Openable mode rounds key nonce header (parcelOf m header message)
     parcel-is = record {
@@ -129,7 +130,7 @@ module _ (start : ℕ → List ℕ → List ℕ → List ℕ) (is-block : Blocks
         refuses parcel 𝓟 e,
       )
 
--- for every start that is a block where the round count is allowed
+-- for every start that is a block
 for-start : (start : ℕ → List ℕ → List ℕ → List ℕ) → Blocks start → Demand2 start
 for-start start is-block = record {
   hands-back = λ mode rounds key nonce header message 𝓜. hands-back start is-block mode rounds key nonce header message 𝓜;
@@ -137,4 +138,4 @@ for-start start is-block = record {
 }
 
 pub demand2 : Demand2 startOf
-demand2 = for-start startOf (λ rounds key nonce allowed. start-block rounds key nonce)
+demand2 = for-start startOf start-block

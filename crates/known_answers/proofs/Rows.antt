@@ -15,7 +15,7 @@ use Rattle.opp.specs.Opp.{padded, oppSum, oppCheck, oppTag, sealAt, oppStream, 
 use Rattle.mro.specs.Mro.{blocks, mroSum, lengths, mroTag, counter, mroStream, streamed, mroCipher, mroMode}
 use Rattle.modes.specs.Modes.{modeOf}
 use Rattle.answers.specs.Answers.{lineAt, line, room}
-use Rattle.checks.specs.Checks.{isMode, isRounds, settings, sealInputs, openInputs, sealChecks, openChecks}
+use Rattle.checks.specs.Checks.{isMode, isOneOf, isRounds, settings, sealInputs, openInputs, sealChecks, openChecks}
 use Rattle.walking.specs.Walking.{isStep, firstBad, inRange, walkChecks, jumpChecks}
 use Rattle.cells.specs.Numbers.{numberAt, putAt}
 use Rattle.cells.specs.Chains.{chain, count, all, below, some}
@@ -25,10 +25,10 @@ use Rattle.sales.specs.Sale.{cashOf}
 use Rattle.store.specs.Store.{formChecks, keyChecks, formatChecks, takeChecks, readChecks}
 use Rattle.words.proofs.Truth.{allBelow, carried}
 use Rattle.blockplan.proofs.Compared.{same-true}
-use Rattle.known_answers.specs.KnownAnswers.{word, g, full, sealed, paid, taken, table, rowAt, KnownAnswers}
+use Rattle.known_answers.specs.KnownAnswers.{word, g, state, digest, full, sealed, byRounds, paid, taken, table, rowAt, KnownAnswers}
 
 computed : allBelow (λ i. same (rowAt i .got) (rowAt i .want)) (length table) ≡ true
-unfolding allBelow rowAt table same word g full sealed zeroBlock tab cat fold times zeros le lowBytes wordAt blockOf wordBytes bytesOf xorBytes perm startBlock startOf maskAt encipher E whole left hasLeft blockAt xorOver xorIf ciphered tagBytes padded oppSum oppCheck oppTag sealAt oppStream oppCipher blocks absorbAt mroSum lengths mroTag counter mroStream streamed mroCipher modeOf oppMode mroMode parcelOf gOf half addW rotR rotL shl round over groups gAt stepAt pick put alpha alphaW beta gamma xorBlock xorAt backAlpha lineAt line room isMode isRounds settings sealInputs openInputs sealChecks openChecks isStep firstBad inRange walkChecks jumpChecks paid taken numberAt putAt chain count all below some cells firstSale firstFree nextOf kindOf bodyOf sales free lengthFits indicesFit kindFits kindsFit covered formed named present cellBytes freshCell fresh filled emptied cashOf formChecks keyChecks formatChecks takeChecks readChecks
+unfolding allBelow rowAt table same word g state digest full sealed byRounds zeroBlock tab cat fold times zeros le lowBytes wordAt blockOf wordBytes bytesOf xorBytes perm startBlock startOf maskAt encipher E whole left hasLeft blockAt xorOver xorIf ciphered tagBytes padded oppSum oppCheck oppTag sealAt oppStream oppCipher blocks absorbAt mroSum lengths mroTag counter mroStream streamed mroCipher modeOf oppMode mroMode parcelOf gOf half addW rotR rotL shl round over groups gAt stepAt pick put alpha alphaW beta gamma xorBlock xorAt backAlpha lineAt line room isMode isOneOf isRounds settings sealInputs openInputs sealChecks openChecks isStep firstBad inRange walkChecks jumpChecks paid taken numberAt putAt chain count all below some cells firstSale firstFree nextOf kindOf bodyOf sales free lengthFits indicesFit kindFits kindsFit covered formed named present cellBytes freshCell fresh filled emptied cashOf formChecks keyChecks formatChecks takeChecks readChecks
 computed = refl
 
 pub known-answers : KnownAnswers

@@ -96,10 +96,10 @@ round s = over groups s
 unfoldable pub backRound : List ℕ → List ℕ
 backRound s = backOver groups s
 
--- P is n rounds
+-- P is n rounds, for any n (document 02, card 2)
 unfoldable pub perm : ℕ → List ℕ → List ℕ
 perm n s = times round n s
 
--- the back permutation undoes P
+-- the back permutation undoes P of as many rounds
 unfoldable pub backPerm : ℕ → List ℕ → List ℕ
 backPerm n s = times backRound n s

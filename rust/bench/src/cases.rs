@@ -40,11 +40,18 @@ impl fmt::Display for Implementation {
 /// Mode and round count; libsodium's ciphers have none.
 pub type Setting = Option<(u32, u32)>;
 
+/// The name of a mode.
+pub fn mode_name(mode: u32) -> &'static str {
+    match mode {
+        OPP => "OPP",
+        _ => "MRO",
+    }
+}
+
 /// The name of a setting.
 pub fn setting_name(setting: Setting) -> String {
     match setting {
-        Some((OPP, rounds)) => format!("OPP, {rounds} rounds"),
-        Some((_, rounds)) => format!("MRO, {rounds} rounds"),
+        Some((mode, rounds)) => format!("{}, {rounds} rounds", mode_name(mode)),
         None => "libsodium".into(),
     }
 }

@@ -1,21 +1,25 @@
-//! The picture: cycles per byte over length, both scales logarithmic.
+//! The picture: cycles per byte over length, both scales logarithmic, a panel for each mode.
 
-use crate::cases::{setting_name, settings, Implementation, Key, Operation, Setting, LENGTHS};
+use crate::cases::{
+    mode_name, setting_name, settings, Implementation, Key, Operation, Setting, LENGTHS,
+};
 use crate::measure::Samples;
 use crate::table::grouped;
+use reference::{MRO, OPP};
 use std::fmt::Write;
 
+/// The panels, the first above the other.
+const PANELS: [u32; 2] = [OPP, MRO];
+/// Of a panel, and so are the places below.
 const WIDTH: f64 = 860.0;
-const HEIGHT: f64 = 520.0;
+const HEIGHT: f64 = 500.0;
 const LEFT: f64 = 64.0;
 const RIGHT: f64 = 600.0;
 const TOP: f64 = 48.0;
 const BOTTOM: f64 = 460.0;
-const TICKS: [f64; 8] = [0.5, 1.0, 2.0, 5.0, 10.0, 20.0, 50.0, 100.0];
-/// Of the settings.
-const COLOURS: [&str; 8] = [
-    "#0072b2", "#56b4e9", "#d55e00", "#e69f00", "#cc79a7", "#8c510a", "#6a3d9a", "#a6cee3",
-];
+const TICKS: [f64; 9] = [0.5, 1.0, 2.0, 5.0, 10.0, 20.0, 50.0, 100.0, 200.0];
+/// Of a mode's settings.
+const COLOURS: [&str; 4] = ["#0072b2", "#d55e00", "#cc79a7", "#e69f00"];
 /// Of libsodium's ciphers.
 const OTHERS: [&str; 2] = ["#009e73", "#555555"];
 
@@ -28,27 +32,37 @@ struct Line {
 
 /// The picture of sealing, as SVG.
 pub fn svg(samples: &Samples<Key>) -> String {
+    let height = HEIGHT * PANELS.len() as f64;
     let mut svg = format!(
-        "<svg xmlns=\"http://www.w3.org/2000/svg\" viewBox=\"0 0 {WIDTH} {HEIGHT}\" \
+        "<svg xmlns=\"http://www.w3.org/2000/svg\" viewBox=\"0 0 {WIDTH} {height}\" \
          font-family=\"sans-serif\" font-size=\"13\">\n\
          <rect width=\"100%\" height=\"100%\" fill=\"white\"/>\n"
     );
-    text(
-        &mut svg,
-        LEFT,
-        24.0,
-        "start",
-        "Sealing: cycles per byte over message length in bytes",
-    );
-    axes(&mut svg);
-    for (i, line) in lines(samples).iter().enumerate() {
-        draw(&mut svg, line, 70.0 + 24.0 * i as f64);
+    for (i, mode) in PANELS.into_iter().enumerate() {
+        let down = HEIGHT * i as f64;
+        push(
+            &mut svg,
+            format_args!("<g transform=\"translate(0 {down})\">"),
+        );
+        panel(&mut svg, samples, mode);
+        push(&mut svg, format_args!("</g>"));
     }
     svg.push_str("</svg>\n");
     svg
 }
 
-fn lines(samples: &Samples<Key>) -> Vec<Line> {
+fn panel(svg: &mut String, samples: &Samples<Key>, mode: u32) {
+    let name = mode_name(mode);
+    let title = format!("Sealing with {name}: cycles per byte over message length in bytes");
+    text(svg, LEFT, 24.0, "start", &title);
+    axes(svg);
+    for (i, line) in lines(samples, mode).iter().enumerate() {
+        draw(svg, line, 70.0 + 24.0 * i as f64);
+    }
+}
+
+/// A mode with each round count, and libsodium's ciphers.
+fn lines(samples: &Samples<Key>, mode: u32) -> Vec<Line> {
     let mut lines = Vec::new();
     let mut add = |implementation: Implementation, setting, colour, dashed| {
         let name = match setting {
@@ -65,7 +79,8 @@ fn lines(samples: &Samples<Key>) -> Vec<Line> {
             });
         }
     };
-    for (i, setting) in settings().into_iter().enumerate() {
+    let of_mode = |setting: &Setting| setting.is_some_and(|(m, _)| m == mode);
+    for (i, setting) in settings().into_iter().filter(of_mode).enumerate() {
         let colour = COLOURS[i % COLOURS.len()];
         add(Implementation::Library, setting, colour, false);
         add(Implementation::ScalarC, setting, colour, true);

@@ -4,6 +4,7 @@ use crate::cases::Operation::{Open, Refuse, Seal};
 use crate::cases::{settings, Implementation, Key, Operation, Setting, SALE};
 use crate::measure::Samples;
 use crate::stores::{StoreKey, CALLS, CELLS};
+use reference::{MRO, OPP};
 use std::fmt;
 
 /// What a call of the library is held against.
@@ -13,6 +14,8 @@ enum By {
     ScalarC,
     /// Its own sealing of as many bytes.
     Seal,
+    /// The same call with four rounds.
+    FourRounds,
     /// The same call of libsodium's cipher.
     XChaCha,
 }
@@ -26,7 +29,7 @@ struct Bound {
     most: f64,
 }
 
-const BOUNDS: [Bound; 3] = [
+const BOUNDS: [Bound; 4] = [
     Bound {
         by: By::ScalarC,
         settings,
@@ -40,6 +43,13 @@ const BOUNDS: [Bound; 3] = [
         operations: [Open, Refuse],
         len: 65_536,
         most: 1.10,
+    },
+    Bound {
+        by: By::FourRounds,
+        settings: || vec![Some((OPP, 12)), Some((MRO, 12))],
+        operations: [Seal, Open],
+        len: 65_536,
+        most: 3.10,
     },
     Bound {
         by: By::XChaCha,
@@ -87,6 +97,10 @@ impl By {
                 operation: Seal,
                 ..key
             },
+            Self::FourRounds => Key {
+                setting: key.setting.map(|(mode, _)| (mode, 4)),
+                ..key
+            },
             Self::XChaCha => Key {
                 implementation: Implementation::XChaCha,
                 setting: None,
@@ -101,6 +115,7 @@ impl fmt::Display for By {
         match self {
             Self::ScalarC => Implementation::ScalarC.fmt(f),
             Self::Seal => Seal.fmt(f),
+            Self::FourRounds => f.write_str("4 rounds"),
             Self::XChaCha => Implementation::XChaCha.fmt(f),
         }
     }

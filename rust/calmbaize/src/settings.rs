@@ -14,8 +14,13 @@ pub enum Mode {
 
 /// The allowed counts, each with its name. This list is the only one.
 macro_rules! rounds {
-    ($first:ident = $least:literal $(, $name:ident = $count:literal)*) => {
-        /// The rounds of the permutation.
+    (
+        $first:ident = $least:literal
+        $(, $name:ident = $count:literal)*
+        or $last:ident = $most:literal
+    ) => {
+        /// The rounds of the permutation. Time grows with them, and a parcel must be opened with the
+        /// count that sealed it.
         #[derive(Clone, Copy, Debug, PartialEq, Eq, Hash)]
         #[non_exhaustive]
         #[repr(u32)]
@@ -26,18 +31,20 @@ macro_rules! rounds {
                 #[doc = concat!($count, " rounds.")]
                 $name = $count,
             )*
+            #[doc = concat!($most, " rounds.")]
+            $last = $most,
         }
 
         impl Rounds {
             /// All that is allowed, the least first.
-            pub const ALL: &'static [Self] = &[Self::$first $(, Self::$name)*];
+            pub const ALL: &'static [Self] = &[Self::$first $(, Self::$name)*, Self::$last];
             /// The same in words, for a reader.
-            pub const LIST: &'static str = concat!($least $(, " or ", $count)*);
+            pub const LIST: &'static str = concat!($least $(, ", ", $count)*, " or ", $most);
         }
     };
 }
 
-rounds!(Four = 4, Six = 6);
+rounds!(Four = 4, Six = 6, Eight = 8 or Twelve = 12);
 
 impl Rounds {
     /// The count as a number.

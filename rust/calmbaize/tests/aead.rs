@@ -35,7 +35,8 @@ fn counts_are_allowed_where_the_archive_allows_them() {
     let counts: Vec<u32> = Rounds::ALL.iter().map(|rounds| rounds.count()).collect();
     assert!(counts.is_sorted(), "{counts:?}");
     let words: Vec<String> = counts.iter().map(u32::to_string).collect();
-    assert_eq!(Rounds::LIST, words.join(" or "));
+    let (most, others) = words.split_last().unwrap();
+    assert_eq!(Rounds::LIST, format!("{} or {most}", others.join(", ")));
 }
 
 #[test]

@@ -118,7 +118,7 @@ fn random_settings(prng: &mut Prng) -> (u32, u32) {
         mode = prng.pick(&[0, 3, 256, 257, 1 << 31, u32::MAX]);
     }
     if prng.once_in(40) {
-        rounds = prng.pick(&[0, 1, 3, 5, 7, 8, 12, 260, u32::MAX]);
+        rounds = prng.pick(&[0, 1, 3, 5, 7, 9, 10, 11, 13, 260, u32::MAX]);
     }
     (mode, rounds)
 }

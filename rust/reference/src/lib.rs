@@ -27,7 +27,7 @@ pub const OPP: u32 = 1;
 /// The mode MRO.
 pub const MRO: u32 = 2;
 /// The round counts that seal and open take.
-pub const ROUNDS: &[u32] = &[4, 6];
+pub const ROUNDS: &[u32] = &[4, 6, 8, 12];
 /// Bytes of a key.
 pub const KEY_LEN: usize = 32;
 /// Bytes of a nonce.
