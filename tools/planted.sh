@@ -254,6 +254,15 @@ planted "the lengths exchanged" \
 planted "another start" \
     's/memcpy(bytes, nonce, NONCE);/&  bytes[80] = 4;/' \
     compare "$faulty" random
+planted "a permutation right up to eight rounds only" \
+    's/uint32_t r = 0; r < rounds/uint32_t r = rounds \/ 9; r < rounds/' \
+    compare "$faulty" random
+planted "ten rounds allowed" \
+    's/= {4, 6, 8, 12};/= {4, 6, 8, 10, 12};/' \
+    compare "$faulty" grounds
+planted "twelve rounds refused" \
+    's/= {4, 6, 8, 12};/= {4, 6, 8};/' \
+    compare "$faulty" grounds
 planted "sales sealed with four rounds" \
     's/ROUNDS = 6/ROUNDS = 4/' \
     compare "$faulty" store
