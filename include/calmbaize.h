@@ -100,12 +100,6 @@ extern "C" {
 #define CALMBAIZE_MODE_OPP 1U
 #define CALMBAIZE_MODE_MRO 2U
 
-/*
- * Rounds of the permutation are a plain number: 4, 6, 8 or 12. Time grows with
- * them. A parcel must be opened with the count that sealed it; the store's sales
- * are sealed with six.
- */
-
 /* Step bytes. */
 #define CALMBAIZE_STEP_ALPHA 1U
 #define CALMBAIZE_STEP_BETA 2U
@@ -167,6 +161,9 @@ static inline uint32_t calmbaize_value(uint64_t answer)
 
 /*
  * Encrypts and authenticates the input, and authenticates the header.
+ *
+ * The permutation takes 4, 6, 8 or 12 rounds, and the time grows with them. A
+ * parcel must be opened with the mode and the rounds that sealed it.
  *
  * Success writes a parcel, the ciphertext and then the tag, of input_len + 32
  * bytes, and answers that length. The rest of the output is unchanged.

@@ -331,10 +331,10 @@ planted_header "a header that does not compile" 's/size_t key_len/key_len/'
 planted_header "open's answer may be dropped" \
     '/^CALMBAIZE_NODISCARD$/ { N; /calmbaize_open/s/.*\n// }'
 planted_header "answers may be dropped in C++17" 's/NODISCARD \[\[nodiscard\]\]/NODISCARD/'
-planted_header "another version than Cargo.toml's" 's/VERSION_MINOR 2/VERSION_MINOR 3/'
+planted_header "another version than Cargo.toml's" 's/VERSION_MINOR [0-9]*/&0/'
 planted_header "another text of the version" 's/VERSION "0/&0/'
 planted_header "parts that only add up to the version" \
-    's/VERSION_MINOR 2/VERSION_MINOR 1/; s/VERSION_PATCH 0/VERSION_PATCH 1000/'
+    's/VERSION_MINOR \([0-9]*\)/VERSION_MINOR (\1 - 1)/; s/VERSION_PATCH \([0-9]*\)/VERSION_PATCH (\1 + 1000)/'
 
 planted_constants "a refusal under another number" 's/REFUSED_COUNT 11U/REFUSED_COUNT 14U/'
 planted_constants "two refusals exchanged" \

@@ -1,2 +1,2 @@
 pub mod Clears
-pub mod Listed
+mod Listed

@@ -12,7 +12,7 @@ use Rattle.answers.specs.declared.Ground.the-variants.{Mode, Rounds, KeyLength,
 unfoldable pub isMode : ℕ → Bool
 isMode mode = eqb mode 1 || eqb mode 2
 
--- one of the numbers of a list
+-- one of the numbers of a list; no passage of documents 01 and 02
 unfoldable pub isOneOf : List ℕ → ℕ → Bool
 isOneOf [] n = false
 isOneOf (k ∷ ks) n = eqb n k || isOneOf ks n

@@ -1,4 +1,4 @@
--- Every row of the table of known answers holds, by one computed test. Assumes nothing.
+-- Every row of the table of known answers holds, by one computed test; P10 and P11 with every round count. Assumes nothing.
 use mathlib.Core.Path.{_≡_, refl}
 use mathlib.Core.Bool.{true}
 use lib.ListN.{length}
@@ -25,11 +25,16 @@ use Rattle.sales.specs.Sale.{cashOf}
 use Rattle.store.specs.Store.{formChecks, keyChecks, formatChecks, takeChecks, readChecks}
 use Rattle.words.proofs.Truth.{allBelow, carried}
 use Rattle.blockplan.proofs.Compared.{same-true}
-use Rattle.known_answers.specs.KnownAnswers.{word, g, state, digest, full, sealed, byRounds, paid, taken, table, rowAt, KnownAnswers}
+use Rattle.known_answers.proofs.Zeros.{zero-tags, zero-parcel}
+use Rattle.known_answers.specs.KnownAnswers.{word, g, workVector, emptyDigest, full, sealed, paid, taken, table, rowAt, KnownAnswers}
 
 computed : allBelow (λ i. same (rowAt i .got) (rowAt i .want)) (length table) ≡ true
-unfolding allBelow rowAt table same word g state digest full sealed byRounds zeroBlock tab cat fold times zeros le lowBytes wordAt blockOf wordBytes bytesOf xorBytes perm startBlock startOf maskAt encipher E whole left hasLeft blockAt xorOver xorIf ciphered tagBytes padded oppSum oppCheck oppTag sealAt oppStream oppCipher blocks absorbAt mroSum lengths mroTag counter mroStream streamed mroCipher modeOf oppMode mroMode parcelOf gOf half addW rotR rotL shl round over groups gAt stepAt pick put alpha alphaW beta gamma xorBlock xorAt backAlpha lineAt line room isMode isOneOf isRounds settings sealInputs openInputs sealChecks openChecks isStep firstBad inRange walkChecks jumpChecks paid taken numberAt putAt chain count all below some cells firstSale firstFree nextOf kindOf bodyOf sales free lengthFits indicesFit kindFits kindsFit covered formed named present cellBytes freshCell fresh filled emptied cashOf formChecks keyChecks formatChecks takeChecks readChecks
+unfolding allBelow rowAt table same word g workVector emptyDigest full sealed zeroBlock tab cat fold times zeros le lowBytes wordAt blockOf wordBytes bytesOf xorBytes perm startBlock startOf maskAt encipher E whole left hasLeft blockAt xorOver xorIf ciphered tagBytes padded oppSum oppCheck oppTag sealAt oppStream oppCipher blocks absorbAt mroSum lengths mroTag counter mroStream streamed mroCipher modeOf oppMode mroMode parcelOf gOf half addW rotR rotL shl round over groups gAt stepAt pick put alpha alphaW beta gamma xorBlock xorAt backAlpha lineAt line room isMode isOneOf isRounds settings sealInputs openInputs sealChecks openChecks isStep firstBad inRange walkChecks jumpChecks paid taken numberAt putAt chain count all below some cells firstSale firstFree nextOf kindOf bodyOf sales free lengthFits indicesFit kindFits kindsFit covered formed named present cellBytes freshCell fresh filled emptied cashOf formChecks keyChecks formatChecks takeChecks readChecks
 computed = refl
 
 pub known-answers : KnownAnswers
-known-answers = record { row = λ i h. same-true (rowAt i .got) (rowAt i .want) (carried (λ i. same (rowAt i .got) (rowAt i .want)) (length table) computed i h) }
+known-answers = record {
+  row = λ i h. same-true (rowAt i .got) (rowAt i .want) (carried (λ i. same (rowAt i .got) (rowAt i .want)) (length table) computed i h);
+  zero-tags = zero-tags;
+  zero-parcel = zero-parcel;
+}

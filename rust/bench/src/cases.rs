@@ -44,7 +44,8 @@ pub type Setting = Option<(u32, u32)>;
 pub fn mode_name(mode: u32) -> &'static str {
     match mode {
         OPP => "OPP",
-        _ => "MRO",
+        MRO => "MRO",
+        other => unreachable!("no mode {other} is measured"),
     }
 }
 

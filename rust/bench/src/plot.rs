@@ -8,9 +8,9 @@ use crate::table::grouped;
 use reference::{MRO, OPP};
 use std::fmt::Write;
 
-/// The panels, the first above the other.
-const PANELS: [u32; 2] = [OPP, MRO];
-/// Of a panel, and so are the places below.
+/// The modes, each with a panel, the first above the other.
+const MODES: [u32; 2] = [OPP, MRO];
+/// A panel's size, and the places within it.
 const WIDTH: f64 = 860.0;
 const HEIGHT: f64 = 500.0;
 const LEFT: f64 = 64.0;
@@ -19,7 +19,9 @@ const TOP: f64 = 48.0;
 const BOTTOM: f64 = 460.0;
 const TICKS: [f64; 9] = [0.5, 1.0, 2.0, 5.0, 10.0, 20.0, 50.0, 100.0, 200.0];
 /// Of a mode's settings.
-const COLOURS: [&str; 4] = ["#0072b2", "#d55e00", "#cc79a7", "#e69f00"];
+const COLOURS: [&str; 8] = [
+    "#0072b2", "#d55e00", "#cc79a7", "#e69f00", "#56b4e9", "#8c510a", "#6a3d9a", "#a6cee3",
+];
 /// Of libsodium's ciphers.
 const OTHERS: [&str; 2] = ["#009e73", "#555555"];
 
@@ -32,13 +34,13 @@ struct Line {
 
 /// The picture of sealing, as SVG.
 pub fn svg(samples: &Samples<Key>) -> String {
-    let height = HEIGHT * PANELS.len() as f64;
+    let height = HEIGHT * MODES.len() as f64;
     let mut svg = format!(
         "<svg xmlns=\"http://www.w3.org/2000/svg\" viewBox=\"0 0 {WIDTH} {height}\" \
          font-family=\"sans-serif\" font-size=\"13\">\n\
          <rect width=\"100%\" height=\"100%\" fill=\"white\"/>\n"
     );
-    for (i, mode) in PANELS.into_iter().enumerate() {
+    for (i, mode) in MODES.into_iter().enumerate() {
         let down = HEIGHT * i as f64;
         push(
             &mut svg,

@@ -14,8 +14,8 @@ enum By {
     ScalarC,
     /// Its own sealing of as many bytes.
     Seal,
-    /// The same call with four rounds.
-    FourRounds,
+    /// The same call with so many rounds.
+    Rounds(u32),
     /// The same call of libsodium's cipher.
     XChaCha,
 }
@@ -45,7 +45,7 @@ const BOUNDS: [Bound; 4] = [
         most: 1.10,
     },
     Bound {
-        by: By::FourRounds,
+        by: By::Rounds(4),
         settings: || vec![Some((OPP, 12)), Some((MRO, 12))],
         operations: [Seal, Open],
         len: 65_536,
@@ -97,8 +97,8 @@ impl By {
                 operation: Seal,
                 ..key
             },
-            Self::FourRounds => Key {
-                setting: key.setting.map(|(mode, _)| (mode, 4)),
+            Self::Rounds(rounds) => Key {
+                setting: key.setting.map(|(mode, _)| (mode, rounds)),
                 ..key
             },
             Self::XChaCha => Key {
@@ -115,7 +115,7 @@ impl fmt::Display for By {
         match self {
             Self::ScalarC => Implementation::ScalarC.fmt(f),
             Self::Seal => Seal.fmt(f),
-            Self::FourRounds => f.write_str("4 rounds"),
+            Self::Rounds(rounds) => write!(f, "{rounds} rounds"),
             Self::XChaCha => Implementation::XChaCha.fmt(f),
         }
     }

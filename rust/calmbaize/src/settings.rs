@@ -14,39 +14,32 @@ pub enum Mode {
 
 /// The allowed counts, each with its name. This list is the only one.
 macro_rules! rounds {
-    (
-        $first:ident = $least:literal
-        $(, $name:ident = $count:literal)*
-        or $last:ident = $most:literal
-    ) => {
+    ($($name:ident = $count:literal),+) => {
         /// The rounds of the permutation. Time grows with them, and a parcel must be opened with the
         /// count that sealed it.
         #[derive(Clone, Copy, Debug, PartialEq, Eq, Hash)]
         #[non_exhaustive]
         #[repr(u32)]
         pub enum Rounds {
-            #[doc = concat!($least, " rounds.")]
-            $first = $least,
             $(
                 #[doc = concat!($count, " rounds.")]
                 $name = $count,
-            )*
-            #[doc = concat!($most, " rounds.")]
-            $last = $most,
+            )+
         }
 
         impl Rounds {
             /// All that is allowed, the least first.
-            pub const ALL: &'static [Self] = &[Self::$first $(, Self::$name)*, Self::$last];
-            /// The same in words, for a reader.
-            pub const LIST: &'static str = concat!($least $(, ", ", $count)*, " or ", $most);
+            pub const ALL: &'static [Self] = &[$(Self::$name),+];
         }
     };
 }
 
-rounds!(Four = 4, Six = 6, Eight = 8 or Twelve = 12);
+rounds!(Four = 4, Six = 6, Eight = 8, Twelve = 12);
 
 impl Rounds {
+    /// All that is allowed in words, for a reader. A test holds it to [`ALL`](Self::ALL).
+    pub const LIST: &'static str = "4, 6, 8 or 12";
+
     /// The count as a number.
     pub const fn count(self) -> u32 {
         self as u32

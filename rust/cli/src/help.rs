@@ -116,7 +116,7 @@ fn settings() -> String {
       --header HEX         header, authenticated but not sent [none]
       --header-file FILE   header, up to 4,096 raw bytes
   -m, --mode opp|mro       opp needs a fresh nonce for every message [mro]
-  -r, --rounds COUNT       rounds of the permutation, {allowed} [{default}]
+  -r, --rounds COUNT       rounds of the permutation: {allowed} [{default}]
 "
     )
 }

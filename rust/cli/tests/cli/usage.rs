@@ -123,7 +123,7 @@ fn no_short_option_takes_a_key() {
 #[test]
 fn counts_are_those_of_the_library() {
     let help = help(&["open"]);
-    let line = format!("rounds of the permutation, {} [6]", Rounds::LIST);
+    let line = format!("rounds of the permutation: {} [6]", Rounds::LIST);
     assert!(help.contains(&line), "{help}");
     for count in 0..20 {
         let seal = run(&sealing("seal", &["--rounds", &count.to_string()]), b"");
