@@ -12,7 +12,7 @@ pub enum Mode {
     Mro = 2,
 }
 
-/// The allowed counts, each with its name. This list is the only one.
+/// The allowed counts, each with its name.
 macro_rules! rounds {
     ($($name:ident = $count:literal),+) => {
         /// The rounds of the permutation. Time grows with them, and a parcel must be opened with the
