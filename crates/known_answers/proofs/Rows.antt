@@ -5,7 +5,7 @@ use lib.ListN.{length}
 use Rattle.words.specs.Sequence.{tab, cat, fold, times, zeros}
 use Rattle.words.specs.Word.{addW, rotR, rotL, shl}
 use Rattle.words.specs.Block.{le, lowBytes, wordAt, blockOf, wordBytes, bytesOf, zeroBlock, xorAt, xorBlock, xorBytes}
-use Rattle.permutation.specs.Permutation.{gOf, half, pick, put, stepAt, gAt, over, groups, round, perm}
+use Rattle.permutation.specs.Permutation.{gOf, pick, put, stepAt, gAt, over, columns, diagonals, groups, round, perm}
 use Rattle.masks.specs.Steps.{alphaW, alpha, beta, gamma}
 use Rattle.back_steps.specs.BackSteps.{backAlpha}
 use Rattle.mem.specs.Mem.{startBlock, startOf, maskAt, encipher, E}
@@ -29,7 +29,7 @@ use Rattle.known_answers.proofs.Zeros.{zero-tags, zero-parcel}
 use Rattle.known_answers.specs.KnownAnswers.{word, g, workVector, emptyDigest, full, sealed, paid, taken, table, rowAt, KnownAnswers}
 
 computed : allBelow (λ i. same (rowAt i .got) (rowAt i .want)) (length table) ≡ true
-unfolding allBelow rowAt table same word g workVector emptyDigest full sealed zeroBlock tab cat fold times zeros le lowBytes wordAt blockOf wordBytes bytesOf xorBytes perm startBlock startOf maskAt encipher E whole left hasLeft blockAt xorOver xorIf ciphered tagBytes padded oppSum oppCheck oppTag sealAt oppStream oppCipher blocks absorbAt mroSum lengths mroTag counter mroStream streamed mroCipher modeOf oppMode mroMode parcelOf gOf half addW rotR rotL shl round over groups gAt stepAt pick put alpha alphaW beta gamma xorBlock xorAt backAlpha lineAt line room isMode isOneOf isRounds settings sealInputs openInputs sealChecks openChecks isStep firstBad inRange walkChecks jumpChecks paid taken numberAt putAt chain count all below some cells firstSale firstFree nextOf kindOf bodyOf sales free lengthFits indicesFit kindFits kindsFit covered formed named present cellBytes freshCell fresh filled emptied cashOf formChecks keyChecks formatChecks takeChecks readChecks
+unfolding allBelow rowAt table same word g workVector emptyDigest full sealed zeroBlock tab cat fold times zeros le lowBytes wordAt blockOf wordBytes bytesOf xorBytes perm startBlock startOf maskAt encipher E whole left hasLeft blockAt xorOver xorIf ciphered tagBytes padded oppSum oppCheck oppTag sealAt oppStream oppCipher blocks absorbAt mroSum lengths mroTag counter mroStream streamed mroCipher modeOf oppMode mroMode parcelOf gOf addW rotR rotL shl round over groups columns diagonals gAt stepAt pick put alpha alphaW beta gamma xorBlock xorAt backAlpha lineAt line room isMode isOneOf isRounds settings sealInputs openInputs sealChecks openChecks isStep firstBad inRange walkChecks jumpChecks paid taken numberAt putAt chain count all below some cells firstSale firstFree nextOf kindOf bodyOf sales free lengthFits indicesFit kindFits kindsFit covered formed named present cellBytes freshCell fresh filled emptied cashOf formChecks keyChecks formatChecks takeChecks readChecks
 computed = refl
 
 pub known-answers : KnownAnswers

@@ -5,7 +5,7 @@ use Prim.Native.Nat.{ℕ, zero, suc}
 use Rattle.words.specs.Word.{addW, rotR, rotL, shl}
 use Rattle.words.specs.Sequence.{tab, cat, fold, times, zeros}
 use Rattle.words.specs.Block.{le, lowBytes, wordAt, blockOf, wordBytes, bytesOf, zeroBlock, xorAt, xorBlock, xorBytes}
-use Rattle.permutation.specs.Permutation.{gOf, half, pick, put, stepAt, gAt, over, groups, round, perm}
+use Rattle.permutation.specs.Permutation.{gOf, pick, put, stepAt, gAt, over, columns, diagonals, groups, round, perm}
 use Rattle.masks.specs.Steps.{alphaW, alpha, beta, gamma}
 use Rattle.mem.specs.Mem.{startBlock, startOf, maskAt, encipher, E}
 use Rattle.blockplan.specs.Plan.{whole, left, hasLeft, blockAt, xorOver, xorIf, ciphered, tagBytes}
@@ -24,7 +24,7 @@ stays f s e (suc n) = ap f (stays f s e n) ∙ e
 -- ---- what leaves the zero block as it is
 
 round-zero : round zeroBlock ≡ zeroBlock
-unfolding round over groups gAt stepAt pick put gOf half addW rotR zeroBlock zeros tab
+unfolding round over groups columns diagonals gAt stepAt pick put gOf addW rotR zeroBlock zeros tab
 round-zero = refl
 
 xor-zero : xorBlock zeroBlock zeroBlock ≡ zeroBlock

@@ -1,4 +1,4 @@
--- The lines of G on four words: words stay words, and back lines undo them. Assumes nothing.
+-- The lines of G on four words, in two halves: words stay words, and back lines undo them. Assumes nothing.
 use mathlib.Core.Path.{_≡_, ap, _∙_}
 use Prim.Native.Nat.{ℕ, _-_, _^_, _<_}
 use native.Mathlib.Omega.{arith}
@@ -9,7 +9,7 @@ use Rattle.words.specs.Undo.{Undo}
 use Rattle.words.proofs.Xor.{xor-cancel-r}
 use Rattle.words.proofs.Words.{addW-lt, subW-lt, subW-addW, addW-subW, rotR-lt, rotR-back}
 use Rattle.words.proofs.Maps.{undo-then}
-use Rattle.permutation.specs.Permutation.{Quad, half, backHalf, gOf, backGOf}
+use Rattle.permutation.specs.Permutation.{Quad, gOf, backGOf}
 
 -- four words of 64 bits
 pub record Words (q : Quad) : Type 0 where
@@ -38,6 +38,24 @@ module _ (n : ℕ) (n-lt : n < 64) where
   turn-backTurn x y hx hy = rw (xor-cancel-r (rotR (64 - n) x) y) (rotR-back (64 - n) n (omega arith) x hx)
 
 -- ---- four lines, and G
+
+-- G's first four lines and its last four differ in the two rotations
+unfoldable half : ℕ → ℕ → Quad → Quad
+half m n q =
+    let a = addW (q .a) (q .b) in
+    let d = rotR m (bitXor (q .d) a) in
+    let c = addW (q .c) d in
+    let b = rotR n (bitXor (q .b) c) in
+    record { a = a; b = b; c = c; d = d }
+
+-- such four lines undone, the last one first
+unfoldable backHalf : ℕ → ℕ → Quad → Quad
+backHalf m n q =
+    let b = bitXor (rotL n (q .b)) (q .c) in
+    let c = subW (q .c) (q .d) in
+    let d = bitXor (rotL m (q .d)) (q .a) in
+    let a = subW (q .a) b in
+    record { a = a; b = b; c = c; d = d }
 
 -- two fours are equal when their words are
 pub quad : (p q : Quad) → p .a ≡ q .a → p .b ≡ q .b → p .c ≡ q .c → p .d ≡ q .d → p ≡ q
@@ -88,9 +106,9 @@ module _ (m n : ℕ) (m-lt : m < 64) (n-lt : n < 64) where
       ec
       ed
 
-  pub half-undo : Undo Words (half m n) (backHalf m n)
+  half-undo : Undo Words (half m n) (backHalf m n)
   half-undo = record { forth-keeps = half-words; back-keeps = backHalf-words; back-forth = backHalf-half; forth-back = half-backHalf }
 
 pub g-undo : Undo Words gOf backGOf
-unfolding gOf backGOf
+unfolding gOf backGOf half backHalf
 g-undo = undo-then (half-undo 32 24 (lit< tt) (lit< tt)) (half-undo 16 63 (lit< tt) (lit< tt))

@@ -9,7 +9,7 @@ use Rattle.permutation.specs.Permutation.{gAt, backGAt, over, backOver, 
 use Rattle.permutation.specs.Undo.{BackUndoes}
 use Rattle.permutation.proofs.Lines.{g-undo}
 use Rattle.permutation.proofs.Places.{Row, undo-at}
-use Rattle.permutation.proofs.Groups.{Rows, groups-rows}
+use Rattle.permutation.proofs.Groups.{Each, groups-rows}
 
 -- G over one group
 pub gAt-undo : (row : List ℕ) → Row row → Undo Block (gAt row) (backGAt row)
@@ -17,7 +17,7 @@ unfolding gAt backGAt
 gAt-undo row r = undo-at g-undo row r
 
 -- G over groups in turn
-pub over-undo : (rows : List (List ℕ)) → Rows rows → Undo Block (over rows) (backOver rows)
+pub over-undo : (rows : List (List ℕ)) → Each Row rows → Undo Block (over rows) (backOver rows)
 unfolding over backOver
 over-undo [] rs = undo-same
 over-undo (row ∷ rows) rs = undo-then (gAt-undo row (rs .0)) (over-undo rows (rs .1))

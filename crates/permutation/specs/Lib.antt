@@ -1,2 +1,3 @@
 pub mod Permutation
 pub mod Undo
+pub mod Order

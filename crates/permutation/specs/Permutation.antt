@@ -1,5 +1,5 @@
--- The permutation P and the back permutation (document 01, "The permutation (section 8)"). Assumes nothing.
-use mathlib.Core.List.{List, [], _∷_}
+-- The permutation P and the back permutation (document 01, "The permutation (section 8)"; document 02, cards 2 and 3). Assumes nothing.
+use mathlib.Core.List.{List, [], _∷_, _++_}
 use Prim.Native.Nat.{ℕ}
 use lib.ListN.{getD, set}
 use lib.Bits.{bitXor}
@@ -13,31 +13,33 @@ pub record Quad : Type 0 where
   pub c : ℕ
   pub d : ℕ
 
--- a = a + b; d = (d xor a) rotated right by m; c = c + d; b = (b xor c) rotated right by n
-unfoldable pub half : ℕ → ℕ → Quad → Quad
-half m n q =
-    let a = addW (q .a) (q .b) in
-    let d = rotR m (bitXor (q .d) a) in
-    let c = addW (q .c) d in
-    let b = rotR n (bitXor (q .b) c) in
-    record { a = a; b = b; c = c; d = d }
-
--- the step G: the four lines with 32 and 24, then the same four lines with 16 and 63
+-- the step G: its eight lines, as section 8 prints them
 unfoldable pub gOf : Quad → Quad
-gOf q = half 16 63 (half 32 24 q)
-
--- the four lines undone, the last one first
-unfoldable pub backHalf : ℕ → ℕ → Quad → Quad
-backHalf m n q =
-    let b = bitXor (rotL n (q .b)) (q .c) in
-    let c = subW (q .c) (q .d) in
-    let d = bitXor (rotL m (q .d)) (q .a) in
-    let a = subW (q .a) b in
+gOf q =
+    let record { a = a; b = b; c = c; d = d } = q in
+    let a = addW a b in
+    let d = rotR 32 (bitXor d a) in
+    let c = addW c d in
+    let b = rotR 24 (bitXor b c) in
+    let a = addW a b in
+    let d = rotR 16 (bitXor d a) in
+    let c = addW c d in
+    let b = rotR 63 (bitXor b c) in
     record { a = a; b = b; c = c; d = d }
 
--- the step G undone
+-- the step G undone: the eight lines undone, the last one first
 unfoldable pub backGOf : Quad → Quad
-backGOf q = backHalf 32 24 (backHalf 16 63 q)
+backGOf q =
+    let record { a = a; b = b; c = c; d = d } = q in
+    let b = bitXor (rotL 63 b) c in
+    let c = subW c d in
+    let d = bitXor (rotL 16 d) a in
+    let a = subW a b in
+    let b = bitXor (rotL 24 b) c in
+    let c = subW c d in
+    let d = bitXor (rotL 32 d) a in
+    let a = subW a b in
+    record { a = a; b = b; c = c; d = d }
 
 -- the four words of a block whose word numbers are in the row
 unfoldable pub pick : List ℕ → List ℕ → Quad
@@ -75,18 +77,27 @@ unfoldable pub backOver : List (List ℕ) → List ℕ → List ℕ
 backOver [] s = s
 backOver (row ∷ rows) s = backGAt row (backOver rows s)
 
--- the eight groups of word numbers
-unfoldable pub groups : List (List ℕ)
-groups =
+-- the four column groups of word numbers, as section 8 prints them
+unfoldable pub columns : List (List ℕ)
+columns =
     (0 ∷ 4 ∷ 8 ∷ 12 ∷ [])
     ∷ (1 ∷ 5 ∷ 9 ∷ 13 ∷ [])
     ∷ (2 ∷ 6 ∷ 10 ∷ 14 ∷ [])
     ∷ (3 ∷ 7 ∷ 11 ∷ 15 ∷ [])
-    ∷ (0 ∷ 5 ∷ 10 ∷ 15 ∷ [])
+    ∷ []
+
+-- the four diagonal groups, as section 8 prints them
+unfoldable pub diagonals : List (List ℕ)
+diagonals =
+    (0 ∷ 5 ∷ 10 ∷ 15 ∷ [])
     ∷ (1 ∷ 6 ∷ 11 ∷ 12 ∷ [])
     ∷ (2 ∷ 7 ∷ 8 ∷ 13 ∷ [])
     ∷ (3 ∷ 4 ∷ 9 ∷ 14 ∷ [])
     ∷ []
+
+-- the eight groups: the columns, then the diagonals
+unfoldable pub groups : List (List ℕ)
+groups = columns ++ diagonals
 
 -- a round takes G over the eight groups
 unfoldable pub round : List ℕ → List ℕ

@@ -21,7 +21,7 @@ fn sub(x: u64, y: u64) -> u64
     std::num::wrapping_sub_u64(x, y)
 }
 
-// G on words i, j, k, l: its eight lines.
+// G on words i, j, k, l: its eight lines, as section 8 prints them.
 pub fn g(s: [u64; 16], i: usize, j: usize, k: usize, l: usize) -> [u64; 16]
     requires { ⌜ (i < 16) × ((j < 16) × ((k < 16) × (l < 16))) ⌝ }
     ensures { λ r. ⌜ r ≡ gAt (i ∷ j ∷ k ∷ l ∷ []) s ⌝ }

@@ -7,7 +7,7 @@ ghost use Prim.Native.Nat.{_<_};
 ghost use lib.ListN.{getD};
 ghost use Rattle.permutation.specs.Permutation.{groups, gAt, backGAt, round as roundOf, backRound};
 
-// The eight groups of word numbers: four columns, four diagonals.
+// The eight groups of word numbers, as section 8 prints them: four columns, then four diagonals.
 const GROUPS: [[usize; 4]; 8] = [
     [0, 4, 8, 12],
     [1, 5, 9, 13],
@@ -37,30 +37,30 @@ fn back_step(s: [u64; 16], k: usize) -> [u64; 16]
     back_g(s, q[0], q[1], q[2], q[3])
 }
 
-// A round: the table read forward. Eight calls, since a loop over the table is not unrolled.
+// A round: the table read forward, the columns and then the diagonals. Eight calls, since a loop over the table is not unrolled.
 pub fn round(s: [u64; 16]) -> [u64; 16]
     ensures { λ r. ⌜ r ≡ roundOf s ⌝ }
 {
-    let s0 = step(s, 0);
-    let s1 = step(s0, 1);
-    let s2 = step(s1, 2);
-    let s3 = step(s2, 3);
-    let s4 = step(s3, 4);
-    let s5 = step(s4, 5);
-    let s6 = step(s5, 6);
-    step(s6, 7)
+    let c0 = step(s, 0);
+    let c1 = step(c0, 1);
+    let c2 = step(c1, 2);
+    let c3 = step(c2, 3);
+    let d0 = step(c3, 4);
+    let d1 = step(d0, 5);
+    let d2 = step(d1, 6);
+    step(d2, 7)
 }
 
-// A round undone: the table read backward.
+// A round undone: the table read backward, through the same blocks.
 pub fn back_round(s: [u64; 16]) -> [u64; 16]
     ensures { λ r. ⌜ r ≡ backRound s ⌝ }
 {
-    let s7 = back_step(s, 7);
-    let s6 = back_step(s7, 6);
-    let s5 = back_step(s6, 5);
-    let s4 = back_step(s5, 4);
-    let s3 = back_step(s4, 3);
-    let s2 = back_step(s3, 2);
-    let s1 = back_step(s2, 1);
-    back_step(s1, 0)
+    let d2 = back_step(s, 7);
+    let d1 = back_step(d2, 6);
+    let d0 = back_step(d1, 5);
+    let c3 = back_step(d0, 4);
+    let c2 = back_step(c3, 3);
+    let c1 = back_step(c2, 2);
+    let c0 = back_step(c1, 1);
+    back_step(c0, 0)
 }

@@ -1,5 +1,5 @@
 -- The eight lines undone, each what its call ensures. Assumes nothing.
-use Rattle.permutation.specs.Permutation.{backGAt, stepAt, pick, put, backGOf, backHalf}
+use Rattle.permutation.specs.Permutation.{backGAt, stepAt, pick, put, backGOf}
 use borrow.Author.Needs.{needs}
 use Rattle.permutation.proofs.g.back_g.Statement.{statement}
 use Rattle.permutation.proofs.g.back_g.Tie as tie
@@ -77,7 +77,7 @@ array-write-r-4 : tie.Need-array-write-r-4
 array-write-r-4 c = search needs
 
 returns : tie.Need-returns
-unfolding backGAt stepAt pick put backGOf backHalf
+unfolding backGAt stepAt pick put backGOf
 returns c =
     rw (c .sub4 .ensures, c .before .rotate-left4 .ensures, c .before .before .sub3 .ensures, c .before .before .before .rotate-left3 .ensures, c .before .before .before .before .sub2 .ensures, c .before .before .before .before .before .rotate-left2 .ensures, c .before .before .before .before .before .before .sub .ensures, c .before .before .before .before .before .before .before .rotate-left .ensures)
 

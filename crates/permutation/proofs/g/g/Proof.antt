@@ -1,5 +1,5 @@
 -- The eight lines, each what its call ensures. Assumes nothing.
-use Rattle.permutation.specs.Permutation.{gAt, stepAt, pick, put, gOf, half}
+use Rattle.permutation.specs.Permutation.{gAt, stepAt, pick, put, gOf}
 use borrow.Author.Needs.{needs}
 use Rattle.permutation.proofs.g.g.Statement.{statement}
 use Rattle.permutation.proofs.g.g.Tie as tie
@@ -77,7 +77,7 @@ array-write-r-4 : tie.Need-array-write-r-4
 array-write-r-4 c = search needs
 
 returns : tie.Need-returns
-unfolding gAt stepAt pick put gOf half
+unfolding gAt stepAt pick put gOf
 returns c =
     rw (c .rotate-right4 .ensures, c .before .add4 .ensures, c .before .before .rotate-right3 .ensures, c .before .before .before .add3 .ensures, c .before .before .before .before .rotate-right2 .ensures, c .before .before .before .before .before .add2 .ensures, c .before .before .before .before .before .before .rotate-right .ensures, c .before .before .before .before .before .before .before .add .ensures)
 

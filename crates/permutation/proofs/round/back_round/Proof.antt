@@ -1,5 +1,5 @@
 -- Eight calls, one for each group. Assumes nothing.
-use Rattle.permutation.specs.Permutation.{groups, backOver, backRound}
+use Rattle.permutation.specs.Permutation.{columns, diagonals, groups, backOver, backRound}
 use borrow.Author.Needs.{needs}
 use Rattle.permutation.proofs.round.back_round.Statement.{statement}
 use Rattle.permutation.proofs.round.back_round.Tie as tie
@@ -29,7 +29,7 @@ back-step-requires-8 : tie.Need-back-step-requires-8
 back-step-requires-8 c κs = search needs
 
 returns : tie.Need-returns
-unfolding backRound backOver groups
+unfolding backRound backOver groups columns diagonals
 returns c =
     rw (c .back-step8 .ensures, c .before .back-step7 .ensures, c .before .before .back-step6 .ensures, c .before .before .before .back-step5 .ensures, c .before .before .before .before .back-step4 .ensures, c .before .before .before .before .before .back-step3 .ensures, c .before .before .before .before .before .before .back-step2 .ensures, c .before .before .before .before .before .before .before .back-step .ensures)
 

@@ -1,7 +1,7 @@
 -- The row is one of the eight groups: four places of a block. Assumes nothing.
 use mathlib.Core.List.{[]}
 use lib.ListN.{getD}
-use Rattle.permutation.specs.Permutation.{groups, backGAt, stepAt, pick, put}
+use Rattle.permutation.specs.Permutation.{columns, diagonals, groups, backGAt, stepAt, pick, put}
 use Rattle.permutation.proofs.Places.{row-in}
 use Rattle.permutation.proofs.Groups.{row-at, groups-rows}
 use borrow.Author.Needs.{needs}
@@ -27,11 +27,11 @@ array-read-back-g-4 : tie.Need-array-read-back-g-4
 array-read-back-g-4 c = search needs
 
 returns : tie.Need-returns
-unfolding groups backGAt stepAt pick put
+unfolding groups columns diagonals backGAt stepAt pick put
 returns c = c .back-g .ensures
 
 back-g-requires : tie.Need-back-g-requires
-unfolding groups
+unfolding groups columns diagonals
 back-g-requires c κs = row-in (getD groups (c .before .args .k) []) (row-at groups groups-rows (c .before .args .k) (c .before .pre))
 
 pub back-step-spec : {M : Type 1} → statement M

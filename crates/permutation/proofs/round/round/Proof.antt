@@ -1,5 +1,5 @@
 -- Eight calls, one for each group. Assumes nothing.
-use Rattle.permutation.specs.Permutation.{groups, over, round}
+use Rattle.permutation.specs.Permutation.{columns, diagonals, groups, over, round}
 use borrow.Author.Needs.{needs}
 use Rattle.permutation.proofs.round.round.Statement.{statement}
 use Rattle.permutation.proofs.round.round.Tie as tie
@@ -29,7 +29,7 @@ step-requires-8 : tie.Need-step-requires-8
 step-requires-8 c κs = search needs
 
 returns : tie.Need-returns
-unfolding round over groups
+unfolding round over groups columns diagonals
 returns c =
     rw (c .step8 .ensures, c .before .step7 .ensures, c .before .before .step6 .ensures, c .before .before .before .step5 .ensures, c .before .before .before .before .step4 .ensures, c .before .before .before .before .before .step3 .ensures, c .before .before .before .before .before .before .step2 .ensures, c .before .before .before .before .before .before .before .step .ensures)
 

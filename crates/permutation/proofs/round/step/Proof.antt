@@ -1,7 +1,7 @@
 -- The row is one of the eight groups: four places of a block. Assumes nothing.
 use mathlib.Core.List.{[]}
 use lib.ListN.{getD}
-use Rattle.permutation.specs.Permutation.{groups, gAt, stepAt, pick, put}
+use Rattle.permutation.specs.Permutation.{columns, diagonals, groups, gAt, stepAt, pick, put}
 use Rattle.permutation.proofs.Places.{row-in}
 use Rattle.permutation.proofs.Groups.{row-at, groups-rows}
 use borrow.Author.Needs.{needs}
@@ -27,11 +27,11 @@ array-read-g-4 : tie.Need-array-read-g-4
 array-read-g-4 c = search needs
 
 returns : tie.Need-returns
-unfolding groups gAt stepAt pick put
+unfolding groups columns diagonals gAt stepAt pick put
 returns c = c .g .ensures
 
 g-requires : tie.Need-g-requires
-unfolding groups
+unfolding groups columns diagonals
 g-requires c κs = row-in (getD groups (c .before .args .k) []) (row-at groups groups-rows (c .before .args .k) (c .before .pre))
 
 pub step-spec : {M : Type 1} → statement M
