@@ -93,7 +93,7 @@ planted_constants() {
 copy_root() {
     rm -rf "$work/copy"
     mkdir "$work/copy"
-    (cd "$root" && tar -cf - --exclude=target .ci Makefile c crates crates.txt rust tools) |
+    (cd "$root" && tar -cf - --exclude=target .ci Makefile c crates crates.txt docs rust tools) |
         tar -xf - -C "$work/copy"
 }
 
@@ -116,6 +116,13 @@ planted_layout() {
     expect 1 "$1" "$root/tools/check-layout.sh" "$work/copy"
 }
 
+# planted_printed STATUS NAME FILE SED-SCRIPT: the check of the lines beside the paper's must end so where FILE is so.
+planted_printed() {
+    copy_root
+    sed "$4" "$root/$3" > "$work/copy/$3"
+    expect "$1" "$2" "$root/tools/check-printed.sh" "$work/copy"
+}
+
 build "$work/sound"
 expect 0 "sound: compare" compare "$work/sound" all
 expect 0 "sound: cases" compare "$work/sound" vectors "$root"/rust/compare/cases/*.txt
@@ -128,6 +135,7 @@ expect 0 "sound: constants" "$root/tools/check-constants.sh" "$work/sound"
 expect 0 "sound: install" "$root/tools/check-install.sh" "$work/sound"
 expect 0 "sound: bench" bench "$work/sound"
 expect 0 "sound: layout" "$root/tools/check-layout.sh"
+expect 0 "sound: printed" "$root/tools/check-printed.sh"
 
 planted "tag compared by an early exit" \
     's/difference |= \(.*\);/if ((\1) != 0) return 1;/' \
@@ -373,6 +381,15 @@ planted_layout "layout: a warning of clippy" "cargo clippy --version" rust/refer
     '\n/// Planted.\npub fn planted(x: bool) -> bool {\n    x == true\n}\n'
 planted_layout "layout: Rattle" "rt version" crates/words/src/lib.rt '\n\n\n'
 planted_layout "layout: a warning of shellcheck" "shellcheck --version" tools/need.sh 'planted=1\n'
+
+planted_printed 1 "printed: two lines of G exchanged" crates/permutation/src/g.rt \
+    's/rotate_right(d ^ a, 32)/rotate_right(b ^ c, 24)/; t; s/rotate_right(b ^ c, 24)/rotate_right(d ^ a, 32)/'
+planted_printed 1 "printed: a column after a diagonal" crates/permutation/src/round.rt \
+    '/\[3, 7, 11, 15\],/{h;d}; /\[0, 5, 10, 15\],/G'
+planted_printed 1 "printed: a line between two of the definition's" crates/permutation/specs/Permutation.antt \
+    's/let c = addW c d in/&\n    let c = c in/'
+planted_printed 1 "printed: a line that the page does not quote" docs/PAPER.md 's/`step(d2, 7)`/step(d2, 7)/'
+planted_printed 2 "printed: no table" docs/PAPER.md 's/^| Section 8/| Section 4/'
 
 echo none > "$faulty/libcalmbaize.a"
 for check in archive constants secrets stack traces; do
