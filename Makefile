@@ -35,7 +35,7 @@ tool: dist ## builds the command line tool
 demo: tool ## builds what is missing and shows the main job
 	@tools/demo.sh $(TOOL)
 
-test: ## the gate: layout, proofs, must-fail edits, and the checks of the machine code
+test: ## the gate: layout, the round as printed, proofs, must-fail edits, and the checks of the machine code
 	@.ci/run
 
 planted: tools ## the outside checks, seen to fail on faulty libraries, headers and programs

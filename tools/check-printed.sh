@@ -1,63 +1,94 @@
 #!/bin/sh
-# The lines that docs/PAPER.md puts beside section 8's stand in their files, one below the other.
+# The round and G stand as the paper's section 8 prints them, step for step and in its order: in the
+# definitions, in the code, and on the page that puts the three beside each other. The proofs can't see
+# the order of the columns, or of the diagonals: it changes no result.
 #
 # usage: check-printed.sh [FOLDER]
 #
-# FOLDER is a copy of the repository, this one if it is not given. A table of that page is looked at where
-# its first heading is "Section 8"; each other heading names a file, and the cells below it are lines there.
-# Under "Section 8, next" they come after those of the table before.
+# FOLDER is a copy of the repository, this one if it is not given.
 set -u
 
 root=$(cd "$(dirname "$0")/.." && pwd)
 cd "${1:-$root}" || exit 2
+definitions=crates/permutation/specs/Permutation.antt
+groups=crates/permutation/src/round.rt
+lines=crates/permutation/src/g.rt
+page=docs/PAPER.md
+for file in "$definitions" "$groups" "$lines" "$page"; do
+    if [ ! -f "$file" ]; then
+        echo "check-printed: $file is missing" >&2
+        exit 2
+    fi
+done
 
-awk -F ' *[|] *' '
-# What stands between the back quotes of a cell.
-function quoted(cell) {
-    return match(cell, /`[^`]+`/) ? substr(cell, RSTART + 1, RLENGTH - 2) : ""
+awk -v definitions="$definitions" -v groups="$groups" -v lines="$lines" -v page="$page" '
+# The lines stand in the file one below the other, in a paragraph with a line that begins so. Blanks
+# before a line, and the sign that joins it to a list, do not count.
+function check(file, beginning, wanted,    part, found) {
+    found = 0
+    while ((getline part < file) > 0)
+        if (index("\n" part, "\n" beginning)) {
+            part = "\n" part "\n"
+            gsub(/\n +/, "\n", part)
+            gsub(/\n∷ /, "\n", part)
+            if (index(part, wanted "\n")) found = 1
+        }
+    close(file)
+    if (found) passed++
+    else { failed++; print "  failed: " file ": " beginning }
 }
 
-# The last of the lines that hold the cells of column k, one below the other; 0 where they are not there.
-function held(k,    lines, line, n, at, i) {
-    n = 0
-    while ((getline line < file[k]) > 0) lines[++n] = line
-    close(file[k])
-    for (at = past[k]; at + rows <= n; at++) {
-        for (i = 1; i <= rows && cell[k, i] != "" && index(lines[at + i], cell[k, i]); i++);
-        if (i > rows) return at + rows
+function row(printed, definition, code, more) {
+    return "\n| " printed " | `" definition "` | `" code "` |" (more == "" ? "" : " `" more "` |")
+}
+
+BEGIN {
+    RS = ""
+    # Section 8: the words that each G of a round takes.
+    n = split("0 4 8 12,1 5 9 13,2 6 10 14,3 7 11 15,0 5 10 15,1 6 11 12,2 7 8 13,3 4 9 14", step, ",")
+    split("c0 c1 c2 c3 d0 d1 d2", block, " ")
+    before = "s"
+    for (k = 1; k <= n; k++) {
+        split(step[k], w, " ")
+        printed = "G(s" w[1] ", s" w[2] ", s" w[3] ", s" w[4] ");"
+        definition = "(" w[1] " ∷ " w[2] " ∷ " w[3] " ∷ " w[4] " ∷ [])"
+        entry = "[" w[1] ", " w[2] ", " w[3] ", " w[4] "],"
+        call = "step(" before ", " k - 1 ")"
+        if (k < n) call = "let " block[k] " = " call ";"
+        before = block[k]
+        if (k <= 4) columns = columns "\n" definition
+        else diagonals = diagonals "\n" definition
+        table = table "\n" entry
+        round = round "\n" call
+        rows = rows row(printed, definition, entry, call)
     }
-    return 0
-}
+    check(definitions, "columns =", columns)
+    check(definitions, "diagonals =", diagonals)
+    check(groups, "const GROUPS", table)
+    check(groups, "pub fn round(", round)
+    check(page, "| Section 8 |", rows)
 
-# The end of a table: each of its columns is looked up.
-function finish(    k) {
-    for (k = 3; k < fields; k++) {
-        past[k] = held(k)
-        if (rows > 0 && past[k] > 0) passed++
-        else { failed++; print "  failed: " file[k] ": column " k - 1 " of table " tables }
+    # Section 8: the assignments of G, a sum of two words, or a word xor another rotated right by a number.
+    n = split("a b,d a 32,c d,b c 24,a b,d a 16,c d,b c 63", step, ",")
+    rows = ""
+    for (k = 1; k <= n; k++) {
+        if (split(step[k], w, " ") == 2) {
+            printed = w[1] " = " w[1] " + " w[2] ";"
+            definition = "let " w[1] " = addW " w[1] " " w[2] " in"
+            code = w[1] " = add(" w[1] ", " w[2] ");"
+        } else {
+            printed = w[1] " = (" w[1] " ⊕ " w[2] ") ⋙ " w[3] ";"
+            definition = "let " w[1] " = rotR " w[3] " (bitXor " w[1] " " w[2] ") in"
+            code = w[1] " = rotate_right(" w[1] " ^ " w[2] ", " w[3] ");"
+        }
+        defined = defined "\n" definition
+        coded = coded "\n" code
+        rows = rows row(printed, definition, code, "")
     }
-    fields = 0
-}
+    check(definitions, "gOf q =", defined)
+    check(lines, "pub fn g(", coded)
+    check(page, "| Section 8 |", rows)
 
-/^\| Section 8(, next)? \|/ {
-    tables++
-    fields = NF
-    rows = 0
-    for (k = 3; k < fields; k++) {
-        file[k] = quoted($k)
-        if ($2 == "Section 8") past[k] = 0
-    }
-    next
-}
-fields && /^\|-/ { next }
-fields && /^\|/ {
-    rows++
-    for (k = 3; k < fields; k++) cell[k, rows] = quoted($k)
-    next
-}
-fields { finish() }
-END {
-    if (fields) finish()
     print passed + 0 " passed, " failed + 0 " failed"
-    exit passed + failed == 0 ? 2 : failed > 0
-}' docs/PAPER.md
+    exit failed > 0
+}'

@@ -61,7 +61,7 @@ cases() {
 
 tools/need.sh rt '' && make --no-print-directory tools || exit 2
 part "layout" tools/check-layout.sh
-part "lines as the paper prints them" tools/check-printed.sh
+part "the round as printed" tools/check-printed.sh
 part "proofs, must-fail edits and programs" tools/prove.sh ci
 [ -d target ] && write_times
 part "archive" archive

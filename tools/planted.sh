@@ -116,11 +116,11 @@ planted_layout() {
     expect 1 "$1" "$root/tools/check-layout.sh" "$work/copy"
 }
 
-# planted_printed STATUS NAME FILE SED-SCRIPT: the check of the lines beside the paper's must end so where FILE is so.
+# planted_printed NAME FILE SED-SCRIPT: the check of the round as printed must fail where FILE is so.
 planted_printed() {
     copy_root
-    sed "$4" "$root/$3" > "$work/copy/$3"
-    expect "$1" "$2" "$root/tools/check-printed.sh" "$work/copy"
+    sed "$3" "$root/$2" > "$work/copy/$2"
+    expect 1 "$1" "$root/tools/check-printed.sh" "$work/copy"
 }
 
 build "$work/sound"
@@ -382,19 +382,25 @@ planted_layout "layout: a warning of clippy" "cargo clippy --version" rust/refer
 planted_layout "layout: Rattle" "rt version" crates/words/src/lib.rt '\n\n\n'
 planted_layout "layout: a warning of shellcheck" "shellcheck --version" tools/need.sh 'planted=1\n'
 
-planted_printed 1 "printed: two lines of G exchanged" crates/permutation/src/g.rt \
-    's/rotate_right(d ^ a, 32)/rotate_right(b ^ c, 24)/; t; s/rotate_right(b ^ c, 24)/rotate_right(d ^ a, 32)/'
-planted_printed 1 "printed: a column after a diagonal" crates/permutation/src/round.rt \
-    '/\[3, 7, 11, 15\],/{h;d}; /\[0, 5, 10, 15\],/G'
-planted_printed 1 "printed: a line between two of the definition's" crates/permutation/specs/Permutation.antt \
+planted_printed "printed: two columns exchanged in the definitions, which changes no result" \
+    crates/permutation/specs/Permutation.antt \
+    's/(0 ∷ 4 ∷ 8 ∷ 12 ∷/(1 ∷ 5 ∷ 9 ∷ 13 ∷/; t; s/(1 ∷ 5 ∷ 9 ∷ 13 ∷/(0 ∷ 4 ∷ 8 ∷ 12 ∷/'
+planted_printed "printed: two diagonals exchanged in the table" crates/permutation/src/round.rt \
+    '/\[1, 6, 11, 12\],/{h;d}; /\[2, 7, 8, 13\],/G'
+planted_printed "printed: two columns exchanged in the round" crates/permutation/src/round.rt \
+    's/step(c0, 1)/step(c0, 2)/; s/step(c1, 2)/step(c1, 1)/'
+planted_printed "printed: a line between two of the definition's" crates/permutation/specs/Permutation.antt \
     's/let c = addW c d in/&\n    let c = c in/'
-planted_printed 1 "printed: a line that the page does not quote" docs/PAPER.md 's/`step(d2, 7)`/step(d2, 7)/'
-planted_printed 2 "printed: no table" docs/PAPER.md 's/^| Section 8/| Section 4/'
+planted_printed "printed: a line of G as a comment" crates/permutation/src/g.rt 's|d = rotate_right(d ^ a, 32);|// &|'
+planted_printed "printed: another number on the page" docs/PAPER.md 's/⋙ 63/⋙ 36/'
+planted_printed "printed: a row that the page leaves out" docs/PAPER.md '/`step(d2, 7)`/d'
 
 echo none > "$faulty/libcalmbaize.a"
 for check in archive constants secrets stack traces; do
     expect 2 "$check: an archive that is none" "$root/tools/check-$check.sh" "$faulty"
 done
+rm "$work/copy/docs/PAPER.md"
+expect 2 "printed: no page" "$root/tools/check-printed.sh" "$work/copy"
 for check in constants header install traces; do
     expect 2 "$check: no compiler" env CC="$work/none" "$root/tools/check-$check.sh" "$work/sound"
 done
