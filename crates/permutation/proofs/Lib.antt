@@ -2,5 +2,5 @@ pub mod Lines
 pub mod Places
 pub mod Groups
 pub mod Undone
-pub mod Apart
+mod Apart
 pub mod Ordered
