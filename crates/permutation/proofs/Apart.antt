@@ -41,10 +41,6 @@ module _ (row : List ℕ) (q : Quad) (s : List ℕ) (i : ℕ) (off : Off row i) 
 
 -- ---- two rows
 
-apart-flip : (row other : List ℕ) → Apart row other → Apart other row
-unfolding Apart
-apart-flip row other a i j hi hj e = a j i hj hi (sym e)
-
 module _ (row other : List ℕ) (a : Apart row other) where
   -- no place of the other row is one of the row's
   off-row : (j : ℕ) → j < 4 → Off row (getD other j 0)
@@ -73,6 +69,10 @@ module _ (row other : List ℕ) (a : Apart row other) where
         set-put row p s1 (getD other 2 0) (off-row 2 (lit< tt)) (q .c),
         set-put row p s2 (getD other 3 0) (off-row 3 (lit< tt)) (q .d),
       )
+
+apart-flip : (row other : List ℕ) → Apart row other → Apart other row
+unfolding Apart
+apart-flip row other a i j hi hj e = a j i hj hi (sym e)
 
 pub step-comm : (f h : Quad → Quad) (row other : List ℕ) → Apart row other → (s : List ℕ)
     → stepAt h other (stepAt f row s) ≡ stepAt f row (stepAt h other s)
