@@ -259,7 +259,8 @@ static inline void absorb(uint32_t mode, uint32_t rounds, const uint64_t start[W
     }
 }
 
-static void start_block(uint64_t start[WORDS], uint32_t rounds, const uint8_t *key,
+/* The round count and the tag's bits stand between nonce and key; in the old start there is zero. */
+static void start_block(int old, uint64_t start[WORDS], uint32_t rounds, const uint8_t *key,
                         const uint8_t *nonce)
 {
     uint8_t bytes[BLOCK] = {0};
@@ -267,6 +268,10 @@ static void start_block(uint64_t start[WORDS], uint32_t rounds, const uint8_t *k
     memcpy(bytes, nonce, NONCE);
     memcpy(bytes + BLOCK - KEY, key, KEY);
     load(start, bytes);
+    if (!old) {
+        start[10] = rounds;
+        start[11] = 8 * TAG;
+    }
     permute(rounds, start);
 }
 
@@ -425,10 +430,10 @@ static int tag_differs(const uint8_t *p, const uint64_t tag[4])
     return difference != 0;
 }
 
-uint64_t baseline_seal(uint32_t mode, uint32_t rounds, const uint8_t *key, size_t key_len,
-                       const uint8_t *nonce, size_t nonce_len, const uint8_t *header,
-                       size_t header_len, const uint8_t *input, size_t input_len, uint8_t *output,
-                       size_t output_len)
+static uint64_t seal_from(int old, uint32_t mode, uint32_t rounds, const uint8_t *key,
+                          size_t key_len, const uint8_t *nonce, size_t nonce_len,
+                          const uint8_t *header, size_t header_len, const uint8_t *input,
+                          size_t input_len, uint8_t *output, size_t output_len)
 {
     uint64_t start[WORDS], tag[WORDS] = {0};
     uint64_t refusal = check_settings(mode, rounds, key_len, nonce_len, header_len);
@@ -440,7 +445,7 @@ uint64_t baseline_seal(uint32_t mode, uint32_t rounds, const uint8_t *key, size_
     if (output_len < input_len + TAG)
         return refuse(7, 0);
 
-    start_block(start, rounds, key, nonce);
+    start_block(old, start, rounds, key, nonce);
     if (mode == OPP) {
         absorb(OPP, rounds, start, 0, header, header_len, tag);
         opp_seal(rounds, start, input, output, input_len, tag);
@@ -453,10 +458,28 @@ uint64_t baseline_seal(uint32_t mode, uint32_t rounds, const uint8_t *key, size_
     return input_len + TAG;
 }
 
-uint64_t baseline_open(uint32_t mode, uint32_t rounds, const uint8_t *key, size_t key_len,
+uint64_t baseline_seal(uint32_t mode, uint32_t rounds, const uint8_t *key, size_t key_len,
                        const uint8_t *nonce, size_t nonce_len, const uint8_t *header,
                        size_t header_len, const uint8_t *input, size_t input_len, uint8_t *output,
                        size_t output_len)
+{
+    return seal_from(0, mode, rounds, key, key_len, nonce, nonce_len, header, header_len, input,
+                     input_len, output, output_len);
+}
+
+uint64_t baseline_seal_old(uint32_t mode, uint32_t rounds, const uint8_t *key, size_t key_len,
+                           const uint8_t *nonce, size_t nonce_len, const uint8_t *header,
+                           size_t header_len, const uint8_t *input, size_t input_len,
+                           uint8_t *output, size_t output_len)
+{
+    return seal_from(1, mode, rounds, key, key_len, nonce, nonce_len, header, header_len, input,
+                     input_len, output, output_len);
+}
+
+static uint64_t open_from(int old, uint32_t mode, uint32_t rounds, const uint8_t *key,
+                          size_t key_len, const uint8_t *nonce, size_t nonce_len,
+                          const uint8_t *header, size_t header_len, const uint8_t *input,
+                          size_t input_len, uint8_t *output, size_t output_len)
 {
     uint64_t start[WORDS], tag[WORDS] = {0};
     uint64_t refusal = check_settings(mode, rounds, key_len, nonce_len, header_len);
@@ -471,7 +494,7 @@ uint64_t baseline_open(uint32_t mode, uint32_t rounds, const uint8_t *key, size_
     if (output_len < len)
         return refuse(7, 0);
 
-    start_block(start, rounds, key, nonce);
+    start_block(old, start, rounds, key, nonce);
     if (mode == OPP) {
         absorb(OPP, rounds, start, 0, header, header_len, tag);
         opp_open(rounds, start, input, output, len, tag);
@@ -484,6 +507,24 @@ uint64_t baseline_open(uint32_t mode, uint32_t rounds, const uint8_t *key, size_
         return refuse(9, 0);
     }
     return len;
+}
+
+uint64_t baseline_open(uint32_t mode, uint32_t rounds, const uint8_t *key, size_t key_len,
+                       const uint8_t *nonce, size_t nonce_len, const uint8_t *header,
+                       size_t header_len, const uint8_t *input, size_t input_len, uint8_t *output,
+                       size_t output_len)
+{
+    return open_from(0, mode, rounds, key, key_len, nonce, nonce_len, header, header_len, input,
+                     input_len, output, output_len);
+}
+
+uint64_t baseline_open_old(uint32_t mode, uint32_t rounds, const uint8_t *key, size_t key_len,
+                           const uint8_t *nonce, size_t nonce_len, const uint8_t *header,
+                           size_t header_len, const uint8_t *input, size_t input_len,
+                           uint8_t *output, size_t output_len)
+{
+    return open_from(1, mode, rounds, key, key_len, nonce, nonce_len, header, header_len, input,
+                     input_len, output, output_len);
 }
 
 /* Back steps. */

@@ -22,6 +22,13 @@ uint64_t baseline_open(uint32_t mode, uint32_t rounds,
                        const uint8_t *input, size_t input_len,
                        uint8_t *output, size_t output_len);
 
+uint64_t baseline_open_old(uint32_t mode, uint32_t rounds,
+                           const uint8_t *key, size_t key_len,
+                           const uint8_t *nonce, size_t nonce_len,
+                           const uint8_t *header, size_t header_len,
+                           const uint8_t *input, size_t input_len,
+                           uint8_t *output, size_t output_len);
+
 uint64_t baseline_walk(const uint8_t *start, size_t start_len,
                        const uint8_t *steps, size_t steps_len,
                        uint8_t *output, size_t output_len);
@@ -49,6 +56,16 @@ uint64_t baseline_store_total(const uint8_t *key, size_t key_len,
 
 uint64_t baseline_store_read(const uint8_t *store, size_t store_len,
                              uint32_t machine, uint32_t sale);
+
+/* What the library has no call for. */
+
+/* Seals under the old start, so that there are parcels for baseline_open_old() to open. */
+uint64_t baseline_seal_old(uint32_t mode, uint32_t rounds,
+                           const uint8_t *key, size_t key_len,
+                           const uint8_t *nonce, size_t nonce_len,
+                           const uint8_t *header, size_t header_len,
+                           const uint8_t *input, size_t input_len,
+                           uint8_t *output, size_t output_len);
 
 /* The BLAKE2b permutation, any number of rounds. */
 void baseline_permute(uint32_t rounds, uint64_t s[16]);

@@ -32,9 +32,9 @@
 #include <stdint.h>
 
 /* The version, as text and as one number that grows. */
-#define CALMBAIZE_VERSION "0.3.0"
+#define CALMBAIZE_VERSION "0.4.0"
 #define CALMBAIZE_VERSION_MAJOR 0
-#define CALMBAIZE_VERSION_MINOR 3
+#define CALMBAIZE_VERSION_MINOR 4
 #define CALMBAIZE_VERSION_PATCH 0
 #define CALMBAIZE_VERSION_NUMBER \
     (CALMBAIZE_VERSION_MAJOR * 1000000 + CALMBAIZE_VERSION_MINOR * 1000 + CALMBAIZE_VERSION_PATCH)
@@ -42,9 +42,14 @@
 /*
  * The format of parcels and of sealed sales. It goes up by one where
  * calmbaize_seal() or calmbaize_store_take() comes to write other bytes for the
- * same arguments; no other format is opened.
+ * same arguments; no other format is opened, but by the call that is named here.
+ *
+ *   1   versions before 0.4.0. The masks start from nonce and key alone, the
+ *       paper's section 4. calmbaize_open_old() opens parcels, and nothing opens
+ *       sales in a store.
+ *   2   the round count and the tag's bits enter the start, as in section 8
  */
-#define CALMBAIZE_FORMAT 1
+#define CALMBAIZE_FORMAT 2
 
 /* Marks a call whose answer must not be dropped. */
 #if (defined(__cplusplus) && __cplusplus >= 201703L) ||                \
@@ -88,6 +93,7 @@ extern "C" {
 /* A bound on the stack of each call in bytes, on x86-64; the gate measures it. */
 #define CALMBAIZE_SEAL_STACK_BYTES 4096U
 #define CALMBAIZE_OPEN_STACK_BYTES 4096U
+#define CALMBAIZE_OPEN_OLD_STACK_BYTES 4096U
 #define CALMBAIZE_WALK_STACK_BYTES 8192U
 #define CALMBAIZE_JUMP_STACK_BYTES 8192U
 #define CALMBAIZE_STORE_FORMAT_STACK_BYTES 1024U
@@ -147,7 +153,7 @@ static inline uint32_t calmbaize_place(uint64_t answer)
     return calmbaize_refusal(answer) == CALMBAIZE_OK ? 0 : (uint32_t)answer;
 }
 
-/* The bytes written by seal, open, walk or jump; 0 where the call was refused. */
+/* The bytes written by seal, either open, walk or jump; 0 where the call was refused. */
 static inline size_t calmbaize_written(uint64_t answer)
 {
     return calmbaize_refusal(answer) == CALMBAIZE_OK ? (size_t)answer : 0;
@@ -163,7 +169,8 @@ static inline uint32_t calmbaize_value(uint64_t answer)
  * Encrypts and authenticates the input, and authenticates the header.
  *
  * The permutation takes 4, 6, 8 or 12 rounds, and the time grows with them. A
- * parcel must be opened with the mode and the rounds that sealed it.
+ * parcel must be opened with the mode and the rounds that sealed it. Its bytes
+ * are those of CALMBAIZE_FORMAT.
  *
  * Success writes a parcel, the ciphertext and then the tag, of input_len + 32
  * bytes, and answers that length. The rest of the output is unchanged.
@@ -196,6 +203,27 @@ uint64_t calmbaize_open(uint32_t mode, uint32_t rounds,
                         const uint8_t *header, size_t header_len,
                         const uint8_t *input, size_t input_len,
                         uint8_t *output, size_t output_len);
+
+/*
+ * Verifies and decrypts a parcel of format 1, as calmbaize_open() does one of
+ * this format. No call seals such a parcel any more.
+ *
+ * Success writes the message of input_len - 32 bytes and answers that length.
+ * The rest of the output is unchanged. It succeeds exactly where the parcel is
+ * what sealing in format 1 makes of that message under the same settings; on
+ * every other one it answers 9.
+ *
+ * Refused, in this order, with 1, 2, 3, 4, 5, 8, 6, 7, 9. On 9 the bytes that
+ * the message would have filled are zero and the rest is unchanged; on every
+ * other refusal no byte changes.
+ */
+CALMBAIZE_NODISCARD
+uint64_t calmbaize_open_old(uint32_t mode, uint32_t rounds,
+                            const uint8_t *key, size_t key_len,
+                            const uint8_t *nonce, size_t nonce_len,
+                            const uint8_t *header, size_t header_len,
+                            const uint8_t *input, size_t input_len,
+                            uint8_t *output, size_t output_len);
 
 /*
  * Takes the steps of a list, one after the other, from a start block.

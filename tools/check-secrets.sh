@@ -20,8 +20,8 @@ if [ ! -f "$folder/libcalmbaize.a" ]; then
     echo "check-secrets: $folder/libcalmbaize.a is missing: run make" >&2
     exit 2
 fi
-${CC:-cc} -std=c99 -O1 -g -Wall -Wextra -I "$root/include" "$root/tools/secrets.c" \
-    "$folder/libcalmbaize.a" -o "$work/secrets" || exit 2
+${CC:-cc} -std=c99 -O1 -g -Wall -Wextra -I "$root/include" -I "$root/c" "$root/tools/secrets.c" \
+    "$root/c/baseline.c" "$folder/libcalmbaize.a" -o "$work/secrets" || exit 2
 status=0
 valgrind --quiet --error-limit=no --log-file="$work/log" "$work/secrets" ${2:+"$2"} > "$work/counts" ||
     status=$?

@@ -16,6 +16,6 @@ if [ ! -f "$folder/libcalmbaize.a" ]; then
     exit 2
 fi
 # C's memory functions are bound when the program starts: binding in a call would take of its stack.
-${CC:-cc} -std=c99 -O1 -Wall -Wextra -I "$root/include" "$root/tools/stack.c" \
-    "$folder/libcalmbaize.a" -Wl,-z,now -o "$work/stack" || exit 2
+${CC:-cc} -std=c99 -O1 -Wall -Wextra -I "$root/include" -I "$root/c" "$root/tools/stack.c" \
+    "$root/c/baseline.c" "$folder/libcalmbaize.a" -Wl,-z,now -o "$work/stack" || exit 2
 "$work/stack"

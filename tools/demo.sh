@@ -1,6 +1,7 @@
 #!/bin/sh
 # The main job with the command line tool: seals a sale, opens it, shows that a damaged parcel is
-# refused, steps a mask on and back in two orders, and keeps sales in a store.
+# refused, opens a parcel of an earlier version, steps a mask on and back in two orders, and keeps
+# sales in a store.
 #
 # usage: demo.sh CALMBAIZE
 #
@@ -35,6 +36,21 @@ first=$(od -An -tu1 -N1 parcel | tr -d ' ')
 status=0
 "$tool" open $settings --input damaged --output refused 2> error || status=$?
 echo "one bit changed:      $(cat error) (status $status)"
+grep -q 'refused with 9' error
+[ "$status" -eq 1 ]
+[ ! -e refused ]
+
+# "sale" with the header "post", as version 0.3.0 sealed it under the start of section 4.
+printf '%b' '\0034\0300\0325\0112\0006\0113\0310\0313\0324\0204\0264\0374\0250\0207\0056\0274\0065\0204' \
+    '\0064\0073\0066\0115\0305\0202\0043\0204\0143\0075\0142\0337\0226\0046\0256\0171\0051\0372' > old
+old_settings="--key 000102030405060708090a0b0c0d0e0f101112131415161718191a1b1c1d1e1f \
+    --nonce 000102030405060708090a0b0c0d0e0f --header 706f7374 --mode mro --rounds 6"
+"$tool" open $old_settings --old-start --input old --output old-sale
+echo "of version 0.3.0:     $(cat old-sale), by --old-start"
+[ "$(cat old-sale)" = sale ]
+status=0
+"$tool" open $old_settings --input old --output refused 2> error || status=$?
+echo "and without that:     $(cat error) (status $status)"
 grep -q 'refused with 9' error
 [ "$status" -eq 1 ]
 [ ! -e refused ]

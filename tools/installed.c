@@ -1,20 +1,31 @@
 /*
- * A program as a user writes it, over what make install put there: seals and opens, takes a sale and
- * cancels it, and holds the parcels and the sale to the bytes of their format.
+ * A program as a user writes it, over what make install put there: seals and opens, opens parcels of
+ * the format before, takes a sale and cancels it, and holds the parcels and the sale to the bytes of
+ * their format.
  */
 #include <stdio.h>
 #include <string.h>
 
 #include <calmbaize.h>
 
-#if CALMBAIZE_FORMAT != 1
-#error "the parcels and the sale below are of format 1: put those of the new format in their place"
+#if CALMBAIZE_FORMAT != 2
+#error "the parcels and the sale below are of format 2: put those of the new format in their place"
 #endif
 
 enum { ROUNDS = 6, MESSAGE = 4, PARCEL = MESSAGE + CALMBAIZE_TAG_BYTES };
 
 /* Under OPP, and under MRO. */
 static const uint8_t parcels[][PARCEL] = {
+    {0x73, 0x2d, 0x27, 0x43, 0xb9, 0x33, 0xf5, 0x67, 0x4b, 0x17, 0xbc, 0x54,
+     0xca, 0x7e, 0xb4, 0xce, 0x1f, 0x5c, 0x8d, 0x77, 0x64, 0xb8, 0xdb, 0x84,
+     0x32, 0x23, 0xf6, 0x2b, 0x88, 0xb1, 0x3d, 0xbe, 0xe1, 0x4b, 0xc2, 0x2b},
+    {0x47, 0x1b, 0xed, 0x8f, 0xc9, 0xaf, 0x96, 0x6c, 0xfb, 0x14, 0xb3, 0xaa,
+     0xf0, 0x10, 0x5e, 0xf4, 0xdc, 0x49, 0x09, 0xfc, 0xb1, 0x94, 0x65, 0x7c,
+     0x96, 0xef, 0xb7, 0x06, 0x59, 0xe0, 0xef, 0xc7, 0x38, 0xec, 0xb9, 0x25},
+};
+
+/* The same message in format 1. */
+static const uint8_t old_parcels[][PARCEL] = {
     {0xbc, 0x65, 0xe2, 0xd4, 0x72, 0xae, 0xc0, 0x71, 0x4c, 0x3b, 0xfb, 0xc3,
      0x25, 0xe9, 0xd4, 0x9f, 0x89, 0xd2, 0x63, 0x67, 0x61, 0x78, 0x57, 0x0a,
      0xe6, 0xa8, 0x14, 0xb7, 0xd0, 0x03, 0xf9, 0x40, 0xf8, 0xdf, 0xf3, 0xd2},
@@ -26,10 +37,10 @@ static const uint8_t parcels[][PARCEL] = {
 /* The nonce, the sealed record and the tag of the sale below. */
 static const uint8_t sale_part[CALMBAIZE_SALE_BYTES] = {
     0x07, 0x00, 0x00, 0x00, 0x01, 0x00, 0x00, 0x00, 0x00, 0x01, 0x02, 0x03, 0x04,
-    0x05, 0x06, 0x07, 0x91, 0xfe, 0xac, 0x84, 0xae, 0xd1, 0x3f, 0xec, 0xe0, 0x2f,
-    0x4e, 0x19, 0x26, 0xe3, 0xe6, 0xc9, 0x1d, 0xa7, 0x13, 0x78, 0x72, 0x6c, 0x24,
-    0x74, 0x30, 0x27, 0x02, 0x80, 0x7b, 0x2f, 0x45, 0x11, 0xc9, 0xb9, 0x04, 0x2f,
-    0xb0, 0x3e, 0x7a, 0x43, 0x48, 0x7f, 0xb4, 0x0d, 0x27,
+    0x05, 0x06, 0x07, 0x2c, 0xf5, 0xa4, 0xc2, 0x55, 0xad, 0xab, 0x80, 0x73, 0x9b,
+    0x7d, 0x50, 0xb1, 0x91, 0x2f, 0x10, 0xb5, 0xf8, 0xcd, 0xfe, 0x95, 0x25, 0xcc,
+    0x5d, 0x10, 0x1a, 0x1a, 0x22, 0xea, 0xa1, 0x46, 0xca, 0x03, 0xa8, 0xc8, 0x31,
+    0x9a, 0x24, 0x9f, 0x24, 0xd7, 0x4d, 0x6b, 0xa9, 0x2b,
 };
 
 static const uint8_t header[] = {'p', 'o', 's', 't'}, message[MESSAGE] = {'s', 'a', 'l', 'e'};
@@ -46,14 +57,40 @@ static void count_up(uint8_t *bytes, size_t len)
 
 static int sealed_as_stated(uint32_t mode, const uint8_t stated[PARCEL])
 {
-    uint8_t parcel[PARCEL], opened[MESSAGE];
-    uint64_t sealed = calmbaize_seal(mode, ROUNDS, key, sizeof key, nonce, sizeof nonce, header,
+    uint8_t parcel[PARCEL];
+    uint64_t answer = calmbaize_seal(mode, ROUNDS, key, sizeof key, nonce, sizeof nonce, header,
                                      sizeof header, message, MESSAGE, parcel, PARCEL);
-    uint64_t answer = calmbaize_open(mode, ROUNDS, key, sizeof key, nonce, sizeof nonce, header,
-                                     sizeof header, parcel, PARCEL, opened, MESSAGE);
 
-    return calmbaize_written(sealed) == PARCEL && memcmp(parcel, stated, PARCEL) == 0 &&
-           calmbaize_written(answer) == MESSAGE && memcmp(opened, message, MESSAGE) == 0;
+    return calmbaize_written(answer) == PARCEL && memcmp(parcel, stated, PARCEL) == 0;
+}
+
+/* Both calls that open. */
+typedef uint64_t opening(uint32_t, uint32_t, const uint8_t *, size_t, const uint8_t *, size_t,
+                         const uint8_t *, size_t, const uint8_t *, size_t, uint8_t *, size_t);
+
+/* The one opens the parcel, and the other refuses it. */
+static int opened_by(opening *one, opening *other, uint32_t mode, const uint8_t parcel[PARCEL])
+{
+    uint8_t opened[MESSAGE], refused[MESSAGE];
+    uint64_t message_of = one(mode, ROUNDS, key, sizeof key, nonce, sizeof nonce, header,
+                              sizeof header, parcel, PARCEL, opened, MESSAGE);
+    uint64_t refusal = other(mode, ROUNDS, key, sizeof key, nonce, sizeof nonce, header,
+                             sizeof header, parcel, PARCEL, refused, MESSAGE);
+
+    return calmbaize_written(message_of) == MESSAGE && memcmp(opened, message, MESSAGE) == 0 &&
+           calmbaize_refusal(refusal) == CALMBAIZE_REFUSED_TAG;
+}
+
+static int parcels_as_stated(void)
+{
+    static const uint32_t modes[] = {CALMBAIZE_MODE_OPP, CALMBAIZE_MODE_MRO};
+    int hold = 1;
+
+    for (int i = 0; i < 2; i++)
+        hold = hold && sealed_as_stated(modes[i], parcels[i]) &&
+               opened_by(calmbaize_open, calmbaize_open_old, modes[i], parcels[i]) &&
+               opened_by(calmbaize_open_old, calmbaize_open, modes[i], old_parcels[i]);
+    return hold;
 }
 
 /* What the coins come to, or -1 where that is refused. */
@@ -91,11 +128,10 @@ int main(void)
     count_up(nonce, sizeof nonce);
     count_up(tail, sizeof tail);
     count_up(hour, sizeof hour);
-    parcels_hold = sealed_as_stated(CALMBAIZE_MODE_OPP, parcels[0]) &&
-                   sealed_as_stated(CALMBAIZE_MODE_MRO, parcels[1]);
+    parcels_hold = parcels_as_stated();
     store_holds = stored_as_stated();
     if (!parcels_hold)
-        printf("  the parcels are not those of format %d\n", CALMBAIZE_FORMAT);
+        printf("  the parcels are not those of format %d, or of the format before\n", CALMBAIZE_FORMAT);
     if (!store_holds)
         printf("  the stored sale is not that of format %d\n", CALMBAIZE_FORMAT);
     return !(parcels_hold && store_holds);

@@ -176,7 +176,7 @@ planted "an address made of the amount" \
 expect 1 "an address made of the amount, in the trace" "$root/tools/check-traces.sh" "$faulty"
 # Beside the branch on the tag it would be one too many for the count, so that one goes by masks here.
 cat > "$work/total.sed" << 'END'
-/^uint64_t baseline_open/,/^}/ {
+/^static uint64_t open_from/,/^}/ {
     s/if (\(tag_differs(.*)\)) {/uint64_t bad = -(uint64_t)\1; {/
     s/if (len > 0)/for (size_t i = 0; i < len; i++)/
     s/memset(output, 0, len)/output[i] \&= (uint8_t)~bad/
@@ -193,6 +193,12 @@ END
 planted "a branch on the total in place of that on the tag" "$(cat "$work/total.sed")" \
     "$root/tools/check-traces.sh" "$faulty"
 expect 0 "the same branch, by its count" "$root/tools/check-secrets.sh" "$faulty"
+planted "a branch on the tag of an old parcel" \
+    '/^uint64_t baseline_open_old/,/^}/s/return/if (input_len > 0 \&\& input[input_len - 1] == 1) { volatile int x = 1; (void)x; } &/' \
+    "$root/tools/check-secrets.sh" "$faulty" 1
+planted "a deep stack under the old start" \
+    '/^uint64_t baseline_open_old/,/^}/s/return/volatile uint8_t deep[9000]; deep[0] = 0; &/' \
+    "$root/tools/check-stack.sh" "$faulty"
 planted "a deep stack" \
     '/^static void start_block/,/^}/s/load(start, bytes);/volatile uint8_t deep[9000]; deep[0] = 0; &/' \
     "$root/tools/check-stack.sh" "$faulty"
@@ -259,9 +265,27 @@ planted "the counter left out" \
 planted "the lengths exchanged" \
     's/tag\[14\] ^= header_len;/tag[15] ^= header_len;/; s/tag\[15\] ^= len;/tag[14] ^= len;/' \
     compare "$faulty" random
-planted "another start" \
-    's/memcpy(bytes, nonce, NONCE);/&  bytes[80] = 4;/' \
+planted "words 10 and 11 of the start exchanged" \
+    's/start\[10\] = rounds;/start[11] = rounds;/; s/start\[11\] = 8 \* TAG;/start[10] = 8 * TAG;/' \
     compare "$faulty" random
+planted "the tag's length in bytes in the start" \
+    's/start\[11\] = 8 \* TAG;/start[11] = TAG;/' \
+    compare "$faulty" edges
+planted "MRO under the old start" \
+    's/start_block(old, start/start_block(old || mode == MRO, start/' \
+    compare "$faulty" grounds
+planted "old parcels opened under the new start" \
+    's/return open_from(1, /return open_from(0, /' \
+    compare "$faulty" damage
+planted "parcels of either start opened" \
+    '/^uint64_t baseline_open_old/,/^}/s/return open_from(1, /uint64_t new = baseline_open(mode, rounds, key, key_len, nonce, nonce_len, header, header_len, input, input_len, output, output_len); if (new >> 32 == 0) return new; &/' \
+    compare "$faulty" damage
+planted "a round count in the old start" \
+    's/if (!old) {/if (old) start[10] = rounds; &/' \
+    compare "$faulty" known
+planted "sales under the old start" \
+    's/return seal_from(0, /return seal_from(input_len == 13, /; s/return open_from(0, /return open_from(input_len == 45, /' \
+    compare "$faulty" store
 planted "a permutation right up to eight rounds only" \
     's/uint32_t r = 0; r < rounds/uint32_t r = rounds \/ 9; r < rounds/' \
     compare "$faulty" random
@@ -312,17 +336,20 @@ planted "an index read past the last cell" \
     compare "$faulty" guard
 
 planted "another start, in the cases" \
-    's/memcpy(bytes, nonce, NONCE);/&  bytes[80] = 4;/' \
+    's/start\[11\] = 8 \* TAG;/start[11] = TAG;/' \
     compare "$faulty" vectors "$root"/rust/compare/cases/*.txt
 planted "another start under the same format" \
-    's/memcpy(bytes, nonce, NONCE);/&  bytes[80] = 4;/' \
+    's/start\[11\] = 8 \* TAG;/start[11] = TAG;/' \
+    "$root/tools/check-install.sh" "$faulty"
+planted "parcels of the format before that no longer open" \
+    's/if (!old) {/if (old) start[10] = rounds; &/' \
     "$root/tools/check-install.sh" "$faulty"
 planted "another order in the record of a sale" \
     's/AMOUNT = 0, COLUMN = 4/AMOUNT = 2, COLUMN = 0/' \
     "$root/tools/check-install.sh" "$faulty"
 planted_install "another library's name for pkg-config" calmbaize.pc 's/-lcalmbaize/-lcalmbaise/'
 planted_install "another version for pkg-config" calmbaize.pc 's/^Version: /&1/'
-planted_install "another format, the same parcels" calmbaize.h 's/CALMBAIZE_FORMAT 1/CALMBAIZE_FORMAT 2/'
+planted_install "another format, the same parcels" calmbaize.h 's/CALMBAIZE_FORMAT 2/CALMBAIZE_FORMAT 3/'
 planted_installer "LIBDIR not heeded" 's|^libdir=.*|libdir=$prefix/lib|'
 planted_installer "LIBDIR not heeded for pkg-config" 's|libdir=$(libdir_by_prefix)|libdir=\\${prefix}/lib|'
 planted_installer "a file left behind" 's| "$for_pkg_config" "$program"; do| "$program"; do|'

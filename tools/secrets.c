@@ -1,8 +1,9 @@
 /*
  * Seals and opens with the key, the nonce, the message, the parcel and its tag marked undefined, and
- * walks and jumps with the start marked so. In the store the key, the record of a sale, its sealed
- * bytes and its tag are marked; indices, kinds and nonces are not. Under valgrind's memcheck every
- * branch and every address that depends on one of them is an error.
+ * walks and jumps with the start marked so. Parcels of the old start are made by the scalar C, since
+ * no call seals them. In the store the key, the record of a sale, its sealed bytes and its tag are
+ * marked; indices, kinds and nonces are not. Under valgrind's memcheck every branch and every address
+ * that depends on one of them is an error.
  *
  * usage: secrets [VERDICT]
  *
@@ -18,6 +19,7 @@
 
 #include <valgrind/memcheck.h>
 
+#include "baseline.h"
 #include "calmbaize.h"
 #include "settings.h"
 
@@ -95,24 +97,35 @@ static void seal(uint32_t mode, uint32_t rounds, size_t header_len, size_t len)
     count(answer, len + TAG, errors, 0);
 }
 
-/* With the bits of changed in the parcel's byte at the place. */
-static void open(uint32_t mode, uint32_t rounds, size_t header_len, size_t len, size_t place,
-                 uint8_t changed, unsigned allowed)
+/* With nothing marked: the library has no such call. */
+static void seal_old(uint32_t mode, uint32_t rounds, size_t header_len, size_t len)
+{
+    uint64_t answer = baseline_seal_old(mode, rounds, key, sizeof key, nonce, sizeof nonce, header,
+                                        header_len, message, len, parcel, sizeof parcel);
+
+    if (answer != len + TAG)
+        abort();
+}
+
+/* Under the old start or not, with the bits of changed in the parcel's byte at the place. */
+static void open(int old, uint32_t mode, uint32_t rounds, size_t header_len, size_t len,
+                 size_t place, uint8_t changed, unsigned allowed)
 {
     parcel[place] ^= changed;
     hide_key_and_nonce();
     hide(parcel, len + TAG);
     unsigned before = VALGRIND_COUNT_ERRORS;
-    uint64_t answer = calmbaize_open(mode, rounds, key, sizeof key, nonce, sizeof nonce, header,
-                                     header_len, parcel, len + TAG, output, sizeof output);
+    uint64_t answer = (old ? calmbaize_open_old : calmbaize_open)(
+        mode, rounds, key, sizeof key, nonce, sizeof nonce, header, header_len, parcel, len + TAG,
+        output, sizeof output);
     unsigned errors = VALGRIND_COUNT_ERRORS - before;
     define(&answer, sizeof answer);
     define_key_and_nonce();
     define(parcel, sizeof parcel);
     define(output, sizeof output);
     parcel[place] ^= changed;
-    snprintf(tried, sizeof tried, "open, mode %u, %u rounds, %zu bytes, %#x into byte %zu", mode,
-             rounds, len, changed, place);
+    snprintf(tried, sizeof tried, "%s, mode %u, %u rounds, %zu bytes, %#x into byte %zu",
+             old ? "open_old" : "open", mode, rounds, len, changed, place);
     count(answer, changed ? (uint64_t)CALMBAIZE_REFUSED_TAG << 32 : len, errors, allowed);
 }
 
@@ -151,10 +164,12 @@ static void all_lengths(uint32_t mode, uint32_t rounds, unsigned allowed)
 
     for (size_t i = 0; i < COUNT(lengths); i++) {
         size_t len = lengths[i], header_len = i % 2 ? sizeof header : 0;
-        seal(mode, rounds, header_len, len);
-        open(mode, rounds, header_len, len, len, 0, allowed);
-        open(mode, rounds, header_len, len, len, 1, allowed);
-        open(mode, rounds, header_len, len, len + TAG - 1, 0x80, allowed);
+        for (int old = 0; old < 2; old++) {
+            (old ? seal_old : seal)(mode, rounds, header_len, len);
+            open(old, mode, rounds, header_len, len, len, 0, allowed);
+            open(old, mode, rounds, header_len, len, len, 1, allowed);
+            open(old, mode, rounds, header_len, len, len + TAG - 1, 0x80, allowed);
+        }
     }
 }
 

@@ -10,6 +10,7 @@
 #include <string.h>
 #include <ucontext.h>
 
+#include "baseline.h"
 #include "calmbaize.h"
 #include "settings.h"
 
@@ -42,22 +43,43 @@ static void seal(void)
            len + TAG);
 }
 
+/* By the scalar C: the library has no such call. */
+static void seal_old(void)
+{
+    expect(baseline_seal_old(mode, rounds, key, sizeof key, nonce, sizeof nonce, header, header_len,
+                             message, len, parcel, sizeof parcel),
+           len + TAG);
+}
+
 static uint64_t open_parcel(void)
 {
     return calmbaize_open(mode, rounds, key, sizeof key, nonce, sizeof nonce, header, header_len,
                           parcel, len + TAG, output, sizeof output);
 }
 
-static void open(void)
+static uint64_t open_old_parcel(void)
 {
-    expect(open_parcel(), len);
+    return calmbaize_open_old(mode, rounds, key, sizeof key, nonce, sizeof nonce, header, header_len,
+                              parcel, len + TAG, output, sizeof output);
 }
 
-static void open_refused(void)
+/* The parcel, whole and with its tag damaged. */
+static void open_both(uint64_t (*opening)(void))
 {
+    expect(opening(), len);
     parcel[len] ^= 1;
-    expect(open_parcel(), (uint64_t)CALMBAIZE_REFUSED_TAG << 32);
+    expect(opening(), (uint64_t)CALMBAIZE_REFUSED_TAG << 32);
     parcel[len] ^= 1;
+}
+
+static void open(void)
+{
+    open_both(open_parcel);
+}
+
+static void open_old(void)
+{
+    open_both(open_old_parcel);
 }
 
 static void walk(void)
@@ -137,8 +159,8 @@ static size_t depth(void (*call)(void))
     return STACK - untouched;
 }
 
-/* The deepest over all kinds of lengths. */
-static size_t deepest_of_lengths(void (*call)(void))
+/* The deepest over all kinds of lengths, of a call for the parcel that is made first. */
+static size_t deepest_of_lengths(void (*first)(void), void (*call)(void))
 {
     static const size_t lengths[] = {0, 1, 127, 128, 129, 4096, MAX};
     size_t deepest = 0;
@@ -146,7 +168,7 @@ static size_t deepest_of_lengths(void (*call)(void))
     for (size_t i = 0; i < COUNT(lengths); i++)
         for (header_len = 0; header_len <= sizeof header; header_len += 1365) {
             len = lengths[i];
-            seal();
+            first();
             size_t found = depth(call);
             deepest = found > deepest ? found : deepest;
         }
@@ -154,7 +176,7 @@ static size_t deepest_of_lengths(void (*call)(void))
 }
 
 /* The deepest over all modes and round counts. */
-static size_t deepest_sealing(void (*call)(void))
+static size_t deepest_sealing(void (*first)(void), void (*call)(void))
 {
     size_t deepest = 0;
 
@@ -162,7 +184,7 @@ static size_t deepest_sealing(void (*call)(void))
         for (size_t r = 0; r < COUNT(round_counts); r++) {
             mode = modes[m];
             rounds = round_counts[r];
-            size_t found = deepest_of_lengths(call);
+            size_t found = deepest_of_lengths(first, call);
             deepest = found > deepest ? found : deepest;
         }
     return deepest;
@@ -234,14 +256,13 @@ static void check_stores(size_t floor)
 
 int main(void)
 {
-    size_t floor = depth(nothing), opened, refused;
+    size_t floor = depth(nothing);
 
     for (size_t i = 0; i < sizeof steps; i++)
         steps[i] = (uint8_t)(i % 6 + 1);
-    opened = deepest_sealing(open);
-    refused = deepest_sealing(open_refused);
-    check("seal", deepest_sealing(seal), floor, CALMBAIZE_SEAL_STACK_BYTES);
-    check("open", opened > refused ? opened : refused, floor, CALMBAIZE_OPEN_STACK_BYTES);
+    check("seal", deepest_sealing(seal, seal), floor, CALMBAIZE_SEAL_STACK_BYTES);
+    check("open", deepest_sealing(seal, open), floor, CALMBAIZE_OPEN_STACK_BYTES);
+    check("open_old", deepest_sealing(seal_old, open_old), floor, CALMBAIZE_OPEN_OLD_STACK_BYTES);
     check("walk", depth(walk), floor, CALMBAIZE_WALK_STACK_BYTES);
     check("jump", depth(jump), floor, CALMBAIZE_JUMP_STACK_BYTES);
     check_stores(floor);

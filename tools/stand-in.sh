@@ -20,8 +20,8 @@ if [ -n "$fault" ] && diff -r "$root/c" "$sources" > /dev/null; then
     echo "stand-in: the fault '$fault' changes nothing" >&2
     exit 1
 fi
-# Each call goes under the library's name.
-names=$(sed -n 's/^uint64_t \(baseline\)\(_[a-z_]*\)(.*/-D\1\2=calmbaize\2/p' "$root/c/baseline.h")
+# Each call of the library goes under the library's name.
+names=$(sed -n 's/^uint64_t calmbaize\(_[a-z_]*\)(.*/-Dbaseline\1=calmbaize\1/p' "$root/include/calmbaize.h")
 for source in "$sources"/*.c; do
     # Names are words.
     # shellcheck disable=SC2086
@@ -29,8 +29,8 @@ for source in "$sources"/*.c; do
 done
 # One object, so that what one source has of another is no name from outside.
 ${CC:-cc} -r -o "$folder/stand-in.o" "$sources"/*.o
-# The library exports no permutation.
-objcopy --localize-symbol=baseline_permute "$folder/stand-in.o"
+# The library exports nothing else.
+objcopy --wildcard --localize-symbol='baseline_*' "$folder/stand-in.o"
 rm -f "$folder/stand-in.a"
 ar crs "$folder/stand-in.a" "$folder/stand-in.o"
 "$root/tools/make-dist.sh" "$folder/stand-in.a" "$folder"

@@ -10,8 +10,8 @@ use Rattle.answers.specs.declared.Ground.{Ground}
 use Rattle.answers.specs.declared.Answer.{Answer}
 use Rattle.answers.specs.declared.Answer.the-variants.{Done, Refused}
 use Rattle.answers.proofs.Values.{placeOf, taken-apart}
-use Rattle.mem.specs.Mem.{startOf}
-use Rattle.sealing.specs.Sealing.{sealCall, openCall}
+use Rattle.mem.specs.Mem.{startOf, oldStartOf}
+use Rattle.sealing.specs.Sealing.{sealCall, openCall, openOldCall}
 use Rattle.sealing.proofs.Answered.{seal-small, open-small}
 use Rattle.walking.proofs.Answered.{walk-small, jump-small}
 use Rattle.store.specs.Store.{totalCall}
@@ -28,10 +28,11 @@ unfolding totalCall
 total-small key s = shown-lt _ _ (total-place key s)
 
 pub for-c : ForC
-unfolding sealCall openCall
+unfolding sealCall openCall openOldCall
 for-c = record {
   of-seal = λ mode rounds key nonce header message out. taken-apart _ (seal-small startOf mode rounds key nonce header message out);
   of-open = λ mode rounds key nonce header parcel out. taken-apart _ (open-small startOf mode rounds key nonce header parcel out);
+  of-open-old = λ mode rounds key nonce header parcel out. taken-apart _ (open-small oldStartOf mode rounds key nonce header parcel out);
   of-walk = λ start steps out. taken-apart _ (walk-small start steps out);
   of-jump = λ start alpha beta gamma out. taken-apart _ (jump-small start alpha beta gamma out);
   of-format = λ s. taken-apart _ (format-small s);

@@ -4,7 +4,7 @@ use answers::Answer;
 use sales::Sale;
 ghost use mathlib.Core.Path.{_≡_};
 ghost use Rattle.answers.specs.Answers.{codeOf, coded};
-ghost use Rattle.sealing.specs.Sealing.{sealCall, openCall};
+ghost use Rattle.sealing.specs.Sealing.{sealCall, openCall, openOldCall};
 ghost use Rattle.walking.specs.Walking.{walkCall, jumpCall};
 ghost use Rattle.store.specs.Store.{formatCall, takeCall, cancelCall, totalCall, readCall};
 ghost use Rattle.calmbaize.specs.ForC.{saleOf, totalled};
@@ -39,6 +39,22 @@ pub extern "C" fn calmbaize_open(
     ensures { λ r. ⌜ (r, now (output .exit)) ≡ coded (openCall mode rounds (now (key .entry)) (now (nonce .entry)) (now (header .entry)) (now (input .entry)) (now (output .entry))) ⌝ }
 {
     answers::code(sealing::open(mode, rounds, key, nonce, header, input, output))
+}
+
+// Opens a parcel that was sealed under the old start, that of section 4; no call seals under it.
+#[no_mangle]
+pub extern "C" fn calmbaize_open_old(
+    mode: u32,
+    rounds: u32,
+    key: &[u8],
+    nonce: &[u8],
+    header: &[u8],
+    input: &[u8],
+    output: &mut [u8],
+) -> u64
+    ensures { λ r. ⌜ (r, now (output .exit)) ≡ coded (openOldCall mode rounds (now (key .entry)) (now (nonce .entry)) (now (header .entry)) (now (input .entry)) (now (output .entry))) ⌝ }
+{
+    answers::code(sealing::open_old(mode, rounds, key, nonce, header, input, output))
 }
 
 // The block reached from the start by taking each step of the list in turn.

@@ -14,8 +14,8 @@ use Rattle.answers.specs.Answers.{lineAt, line, room, checked}
 use Rattle.answers.proofs.Values.{passed-on}
 use Rattle.answers.specs.declared.Check.the-variants.{Clear}
 use Rattle.answers.specs.declared.Answer.{Answer}
-use Rattle.mem.specs.Mem.{startOf}
-use Rattle.mem.proofs.Laws.{start-block}
+use Rattle.mem.specs.Mem.{startOf, oldStartOf}
+use Rattle.mem.proofs.Laws.{start-block, old-start-block}
 use Rattle.blockplan.specs.Parcel.{Mode, parcelOf, messageOf, genuine, opened}
 use Rattle.blockplan.specs.Lawful.{Lawful}
 use Rattle.blockplan.proofs.Parcels.{parcel-long, parcel-bytes, parcel-message, parcel-genuine, message-long, message-bytes, message-parcel}
@@ -137,5 +137,10 @@ for-start start is-block = record {
   exactly = λ mode rounds key nonce header parcel 𝓟. by-tag start is-block mode rounds key nonce header parcel 𝓟 _ refl;
 }
 
+-- of the calls seal and open
 pub demand2 : Demand2 startOf
 demand2 = for-start startOf start-block
+
+-- of the call for the section 4 start, and of that start's sealing, which is in the definitions alone
+pub demand2-old : Demand2 oldStartOf
+demand2-old = for-start oldStartOf old-start-block

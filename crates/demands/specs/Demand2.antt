@@ -57,7 +57,8 @@ module _ (start : ℕ → List ℕ → List ℕ → List ℕ) (mode rounds : ℕ
       ((message : List ℕ) × Sealable mode rounds key nonce header message × Seals message parcel × Opens parcel message)
       ⊎ (((message : List ℕ) → Sealable mode rounds key nonce header message → Seals message parcel → ⊥) × Refuses parcel)
 
--- demand 2, of seal and open under a start, with every mode and round count that the checks let pass; `Demand2 startOf` is that of the calls
+-- demand 2, of seal and open under a start, with every mode and round count that the checks let pass. `Demand2 startOf` is that of the calls seal and open;
+-- `Demand2 oldStartOf` has the opening rule of the call for the section 4 start, over that start's sealing, which no call does (document 02, card 4)
 pub record Demand2 (start : ℕ → List ℕ → List ℕ → List ℕ) : Type 0 where
   pub hands-back : (mode rounds : ℕ) (key nonce header message : List ℕ) → Sealable mode rounds key nonce header message
       → HandsBack start mode rounds key nonce header message

@@ -3,19 +3,20 @@ use mathlib.Core.Path.{_≡_, refl}
 use mathlib.Core.Bool.{true}
 use lib.ListN.{length}
 use Rattle.words.specs.Sequence.{tab, cat, fold, times, zeros}
-use Rattle.words.specs.Word.{addW, rotR, rotL, shl}
+use Rattle.words.specs.Word.{addW, subW, rotR, rotL, shl}
 use Rattle.words.specs.Block.{le, lowBytes, wordAt, blockOf, wordBytes, bytesOf, zeroBlock, xorAt, xorBlock, xorBytes}
-use Rattle.permutation.specs.Permutation.{gOf, pick, put, stepAt, gAt, over, columns, diagonals, groups, round, perm}
+use Rattle.permutation.specs.Permutation.{gOf, backGOf, pick, put, stepAt, gAt, backGAt, over, backOver, columns, diagonals, groups, round, backRound, perm, backPerm}
 use Rattle.masks.specs.Steps.{alphaW, alpha, beta, gamma}
 use Rattle.back_steps.specs.BackSteps.{backAlpha}
-use Rattle.mem.specs.Mem.{startBlock, startOf, maskAt, encipher, E}
+use Rattle.mem.specs.Mem.{startWords, startBlock, startOf, oldStartBlock, oldStartOf, maskAt, encipher, decipher, E, D}
 use Rattle.blockplan.specs.Plan.{whole, left, hasLeft, blockAt, absorbAt, xorOver, xorIf, ciphered, tagBytes}
-use Rattle.blockplan.specs.Parcel.{same, parcelOf}
-use Rattle.opp.specs.Opp.{padded, oppSum, oppCheck, oppTag, sealAt, oppStream, oppCipher, oppMode}
+use Rattle.blockplan.specs.Parcel.{same, parcelOf, cipherPart, tagPart, messageOf, genuine, opened}
+use Rattle.opp.specs.Opp.{padded, oppSum, oppCheck, oppTag, sealAt, openAt, oppStream, oppCipher, oppPlain, oppMode}
 use Rattle.mro.specs.Mro.{blocks, mroSum, lengths, mroTag, counter, mroStream, streamed, mroCipher, mroMode}
 use Rattle.modes.specs.Modes.{modeOf}
-use Rattle.answers.specs.Answers.{lineAt, line, room}
+use Rattle.answers.specs.Answers.{lineAt, line, room, checked}
 use Rattle.checks.specs.Checks.{isMode, isOneOf, isRounds, settings, sealInputs, openInputs, sealChecks, openChecks}
+use Rattle.sealing.specs.Sealing.{verdict, openFrom, openCall, openOldCall}
 use Rattle.walking.specs.Walking.{isStep, firstBad, inRange, walkChecks, jumpChecks}
 use Rattle.cells.specs.Numbers.{numberAt, putAt}
 use Rattle.cells.specs.Chains.{chain, count, all, below, some}
@@ -26,10 +27,10 @@ use Rattle.store.specs.Store.{formChecks, keyChecks, formatChecks, takeChecks, 
 use Rattle.words.proofs.Truth.{allBelow, carried}
 use Rattle.blockplan.proofs.Compared.{same-true}
 use Rattle.known_answers.proofs.Zeros.{zero-tags, zero-parcel}
-use Rattle.known_answers.specs.KnownAnswers.{word, g, workVector, emptyDigest, full, sealed, paid, taken, table, rowAt, KnownAnswers}
+use Rattle.known_answers.specs.KnownAnswers.{word, g, workVector, emptyDigest, full, sampleKey, sampleNonce, sampleWords, sealedOld, answered, paid, taken, table, rowAt, KnownAnswers}
 
 computed : allBelow (λ i. same (rowAt i .got) (rowAt i .want)) (length table) ≡ true
-unfolding allBelow rowAt table same word g workVector emptyDigest full sealed zeroBlock tab cat fold times zeros le lowBytes wordAt blockOf wordBytes bytesOf xorBytes perm startBlock startOf maskAt encipher E whole left hasLeft blockAt xorOver xorIf ciphered tagBytes padded oppSum oppCheck oppTag sealAt oppStream oppCipher blocks absorbAt mroSum lengths mroTag counter mroStream streamed mroCipher modeOf oppMode mroMode parcelOf gOf addW rotR rotL shl round over groups columns diagonals gAt stepAt pick put alpha alphaW beta gamma xorBlock xorAt backAlpha lineAt line room isMode isOneOf isRounds settings sealInputs openInputs sealChecks openChecks isStep firstBad inRange walkChecks jumpChecks paid taken numberAt putAt chain count all below some cells firstSale firstFree nextOf kindOf bodyOf sales free lengthFits indicesFit kindFits kindsFit covered formed named present cellBytes freshCell fresh filled emptied cashOf formChecks keyChecks formatChecks takeChecks readChecks
+unfolding allBelow rowAt table same word g workVector emptyDigest full sampleKey sampleNonce sampleWords sealedOld answered zeroBlock tab cat fold times zeros le lowBytes wordAt blockOf wordBytes bytesOf xorBytes perm backPerm startWords startBlock startOf oldStartBlock oldStartOf maskAt encipher decipher E D whole left hasLeft blockAt xorOver xorIf ciphered tagBytes padded oppSum oppCheck oppTag sealAt openAt oppStream oppCipher oppPlain blocks absorbAt mroSum lengths mroTag counter mroStream streamed mroCipher modeOf oppMode mroMode parcelOf messageOf cipherPart tagPart genuine opened gOf backGOf addW subW rotR rotL shl round backRound over backOver groups columns diagonals gAt backGAt stepAt pick put alpha alphaW beta gamma xorBlock xorAt backAlpha lineAt line room checked isMode isOneOf isRounds settings sealInputs openInputs sealChecks openChecks verdict openFrom openCall openOldCall isStep firstBad inRange walkChecks jumpChecks paid taken numberAt putAt chain count all below some cells firstSale firstFree nextOf kindOf bodyOf sales free lengthFits indicesFit kindFits kindsFit covered formed named present cellBytes freshCell fresh filled emptied cashOf formChecks keyChecks formatChecks takeChecks readChecks
 computed = refl
 
 pub known-answers : KnownAnswers

@@ -1,4 +1,4 @@
--- P10 and P11 with every count of rounds: P, the steps and the masks leave the zero block as it is. Assumes nothing.
+-- P10 and P11 with every count of rounds, over the section 4 start: P, the steps and the masks leave the zero block as it is. Assumes nothing.
 use mathlib.Core.Path.{_≡_, refl, ap, ap₂, _∙_}
 use mathlib.Core.List.{List, [], _++_}
 use Prim.Native.Nat.{ℕ, zero, suc}
@@ -7,13 +7,13 @@ use Rattle.words.specs.Sequence.{tab, cat, fold, times, zeros}
 use Rattle.words.specs.Block.{le, lowBytes, wordAt, blockOf, wordBytes, bytesOf, zeroBlock, xorAt, xorBlock, xorBytes}
 use Rattle.permutation.specs.Permutation.{gOf, pick, put, stepAt, gAt, over, columns, diagonals, groups, round, perm}
 use Rattle.masks.specs.Steps.{alphaW, alpha, beta, gamma}
-use Rattle.mem.specs.Mem.{startBlock, startOf, maskAt, encipher, E}
+use Rattle.mem.specs.Mem.{startWords, oldStartBlock, oldStartOf, maskAt, encipher, E}
 use Rattle.blockplan.specs.Plan.{whole, left, hasLeft, blockAt, xorOver, xorIf, ciphered, tagBytes}
 use Rattle.blockplan.specs.Parcel.{parcelOf}
 use Rattle.opp.specs.Opp.{oppSum, oppCheck, oppTag, sealAt, oppCipher, oppMode}
 use Rattle.mro.specs.Mro.{blocks, mroSum, lengths, mroTag, mroCipher, mroMode}
 use Rattle.modes.specs.Modes.{modeOf}
-use Rattle.known_answers.specs.KnownAnswers.{sealed}
+use Rattle.known_answers.specs.KnownAnswers.{sealedOld}
 
 -- a map that leaves a list as it is does so any number of times
 stays : (f : List ℕ → List ℕ) (s : List ℕ) → f s ≡ s → (n : ℕ) → times f n s ≡ s
@@ -55,8 +55,8 @@ E-zero : (n i j k : ℕ) → E n zeroBlock i j k zeroBlock ≡ zeroBlock
 unfolding E encipher
 E-zero n i j k = rw (mask-zero i j k, xor-zero, perm-zero n, xor-zero)
 
-start-zero : (n : ℕ) → startOf n (zeros 32) (zeros 16) ≡ zeroBlock
-unfolding startOf startBlock zeroBlock zeros tab wordAt le
+start-zero : (n : ℕ) → oldStartOf n (zeros 32) (zeros 16) ≡ zeroBlock
+unfolding oldStartOf oldStartBlock startWords zeroBlock zeros tab wordAt le
 start-zero n = perm-zero n
 
 -- ---- sealing under the zero start
@@ -78,10 +78,10 @@ opp-block : (n : ℕ) → parcelOf (oppMode n zeroBlock) [] (zeros 128) ≡ zero
 unfolding parcelOf oppMode oppTag oppSum oppCheck oppCipher sealAt ciphered whole left hasLeft xorOver xorIf xorBytes cat fold blockAt blockOf wordAt le bytesOf wordBytes lowBytes xorBlock xorAt zeroBlock zeros tab
 opp-block n = ap₂ (λ (b t : List ℕ). bytesOf b ++ t) (E-zero n 0 0 1) (tag-zero _ (ap (xorBlock zeroBlock) (E-zero n 1 2 1) ∙ xor-zero))
 
-pub zero-tags : (rounds : ℕ) → (sealed 1 rounds [] ≡ zeros 32) × (sealed 2 rounds [] ≡ zeros 32)
-unfolding sealed modeOf
+pub zero-tags : (rounds : ℕ) → (sealedOld 1 rounds [] ≡ zeros 32) × (sealedOld 2 rounds [] ≡ zeros 32)
+unfolding sealedOld modeOf
 zero-tags n = (rw (start-zero n) (opp-empty n), rw (start-zero n) (mro-empty n))
 
-pub zero-parcel : (rounds : ℕ) → sealed 1 rounds (zeros 128) ≡ zeros 160
-unfolding sealed modeOf
+pub zero-parcel : (rounds : ℕ) → sealedOld 1 rounds (zeros 128) ≡ zeros 160
+unfolding sealedOld modeOf
 zero-parcel n = rw (start-zero n) (opp-block n)

@@ -1,4 +1,4 @@
--- The bench sheet's cases that are proved, P1 to P11 and the limits of the checks, and rows of the cards, as rows of one table (document 01, "Bench sheet"; document 02, cards 1 and 2). Assumes nothing.
+-- The bench sheet's cases that are proved, P1 to P11 and the limits of the checks, and rows of the cards, as rows of one table (document 01, "Bench sheet"; document 02, cards 1, 2 and 4). Assumes nothing.
 use mathlib.Core.Path.{_≡_}
 use mathlib.Core.List.{List, [], _∷_, _++_}
 use Prim.Native.Nat.{ℕ, suc, _+_, _<_}
@@ -10,14 +10,16 @@ use Rattle.words.specs.Block.{lowBytes, bytesOf, zeroBlock}
 use Rattle.permutation.specs.Permutation.{gOf, round, perm}
 use Rattle.masks.specs.Steps.{alpha, beta, gamma}
 use Rattle.back_steps.specs.BackSteps.{backAlpha}
-use Rattle.mem.specs.Mem.{startOf}
+use Rattle.mem.specs.Mem.{startBlock, oldStartBlock, oldStartOf}
 use Rattle.blockplan.specs.Parcel.{parcelOf}
 use Rattle.opp.specs.Opp.{padded}
 use Rattle.modes.specs.Modes.{modeOf}
-use Rattle.answers.specs.Answers.{groundNumber}
+use Rattle.answers.specs.Answers.{groundNumber, numberOf, valueOf}
 use Rattle.answers.specs.declared.Check.{Check}
 use Rattle.answers.specs.declared.Check.the-variants.{Clear, Fails}
+use Rattle.answers.specs.declared.Answer.{Answer}
 use Rattle.checks.specs.Checks.{sealChecks, openChecks}
+use Rattle.sealing.specs.Sealing.{openCall, openOldCall}
 use Rattle.walking.specs.Walking.{walkChecks, jumpChecks}
 use Rattle.cells.specs.Cells.{free}
 use Rattle.cells.specs.Changes.{fresh, filled, emptied}
@@ -59,14 +61,31 @@ emptyDigest =
 unfoldable pub full : List ℕ
 full = tab (λ i. suc i) 127
 
--- the parcel of a message with zero key and nonce and an empty header
-unfoldable pub sealed : ℕ → ℕ → List ℕ → List ℕ
-sealed mode rounds message = parcelOf (modeOf mode rounds (startOf rounds (zeros 32) (zeros 16))) [] message
+-- a key and a nonce of unlike bytes
+unfoldable pub sampleKey : List ℕ
+sampleKey = tab (λ i. 16 + i) 32
+
+unfoldable pub sampleNonce : List ℕ
+sampleNonce = tab (λ i. i) 16
+
+-- their sixteen words before P, with these two in words 10 and 11
+unfoldable pub sampleWords : ℕ → ℕ → List ℕ
+sampleWords w10 w11 =
+    0x0706050403020100 ∷ 0x0f0e0d0c0b0a0908 ∷ 0 ∷ 0 ∷ 0 ∷ 0 ∷ 0 ∷ 0 ∷ 0 ∷ 0 ∷ w10 ∷ w11
+    ∷ 0x1716151413121110 ∷ 0x1f1e1d1c1b1a1918 ∷ 0x2726252423222120 ∷ 0x2f2e2d2c2b2a2928 ∷ []
+
+-- the parcel of a message with zero key and nonce and an empty header, over the section 4 start
+unfoldable pub sealedOld : ℕ → ℕ → List ℕ → List ℕ
+sealedOld mode rounds message = parcelOf (modeOf mode rounds (oldStartOf rounds (zeros 32) (zeros 16))) [] message
 
 -- what checks find: the number and the place, or 0 and 0
 abbrev pub found : Check → List ℕ
 found Clear = 0 ∷ 0 ∷ []
 found (Fails ground place) = groundNumber ground ∷ place ∷ []
+
+-- what a call answers: the number, 0 where nothing is refused, and the value or the place
+unfoldable pub answered : Answer × List ℕ → List ℕ
+answered r = numberOf (r .0) ∷ valueOf (r .0) ∷ []
 
 -- a sale of 150 cents, and 61 bytes that begin with a machine and a sale number
 unfoldable pub paid : ℕ → Sale
@@ -75,8 +94,8 @@ paid means = record { machine = 7; sale = 1; tail = zeros 8; amount = 150; colum
 unfoldable pub taken : ℕ → ℕ → List ℕ
 taken machine sale = lowBytes 4 machine ++ (lowBytes 4 sale ++ zeros 53)
 
--- the lines P1 to P11, maskwalk's example with "g", P with twelve rounds, and the limits that the checks keep, those of card 2 too; then rows of the sale
--- store (document 02, card 1)
+-- the lines P1 to P11, of which P10 and P11 hold over the section 4 start alone; card 4's start before P, for each allowed count; maskwalk's example with "g", P with
+-- twelve rounds, and the limits that the checks keep, those of card 2 too; then rows of the sale store (document 02, card 1)
 unfoldable pub table : List Row
 table =
     record { got = g 1 0 0 0; want = 0x101 ∷ 0x0202000200020200 ∷ 0x0101000100010000 ∷ 0x0101000000010000 ∷ [] }  -- P1
@@ -88,9 +107,18 @@ table =
     ∷ record { got = beta (word 0 1); want = set (word 0 1) 15 0x0020000000000000 }  -- P7
     ∷ record { got = backAlpha (word 15 1); want = word 0 0x800 }  -- P8
     ∷ record { got = bytesOf (padded full); want = full ++ (1 ∷ []) }  -- P9
-    ∷ record { got = sealed 1 4 []; want = zeros 32 }  -- P10, OPP and MRO; with every round count in `zero-tags` below
-    ∷ record { got = sealed 2 4 []; want = zeros 32 }
-    ∷ record { got = sealed 1 4 (zeros 128); want = zeros 160 }  -- P11; with every round count in `zero-parcel` below
+    ∷ record { got = sealedOld 1 4 []; want = zeros 32 }  -- P10, OPP and MRO, over the section 4 start; with every round count in `zero-tags` below
+    ∷ record { got = sealedOld 2 4 []; want = zeros 32 }
+    ∷ record { got = sealedOld 1 4 (zeros 128); want = zeros 160 }  -- P11, over the section 4 start; with every round count in `zero-parcel` below
+    ∷ record { got = answered (openOldCall 1 4 (zeros 32) (zeros 16) [] (zeros 160) (zeros 128)); want = 0 ∷ 128 ∷ [] }  -- that parcel opens under the section 4 start
+    ∷ record { got = answered (openCall 1 4 (zeros 32) (zeros 16) [] (zeros 160) (zeros 128)); want = 9 ∷ 0 ∷ [] }  -- and not under card 4's
+    ∷ record { got = answered (openOldCall 2 4 (zeros 32) (zeros 16) [] (zeros 32) []); want = 0 ∷ 0 ∷ [] }  -- likewise P10's under MRO
+    ∷ record { got = answered (openCall 2 4 (zeros 32) (zeros 16) [] (zeros 32) []); want = 9 ∷ 0 ∷ [] }
+    ∷ record { got = startBlock 4 sampleKey sampleNonce; want = sampleWords 4 256 }  -- card 4's start before P, with each allowed count
+    ∷ record { got = startBlock 6 sampleKey sampleNonce; want = sampleWords 6 256 }
+    ∷ record { got = startBlock 8 sampleKey sampleNonce; want = sampleWords 8 256 }
+    ∷ record { got = startBlock 12 sampleKey sampleNonce; want = sampleWords 12 256 }
+    ∷ record { got = oldStartBlock sampleKey sampleNonce; want = sampleWords 0 0 }  -- section 4's
     ∷ record { got = gamma (word 0 1); want = set (set (word 0 1) 14 0x0020000000000000) 15 0x0020000000000000 }  -- maskwalk's example
     ∷ record {
       got = emptyDigest;
@@ -132,6 +160,6 @@ rowAt i = getD table i (record { got = []; want = [] })
 -- each row of the table holds: what the definitions give is what the bench sheet has
 pub record KnownAnswers : Type 0 where
   pub row : (i : ℕ) → i < length table → rowAt i .got ≡ rowAt i .want
-  -- P10 and P11 with every count of rounds
-  pub zero-tags : (rounds : ℕ) → (sealed 1 rounds [] ≡ zeros 32) × (sealed 2 rounds [] ≡ zeros 32)
-  pub zero-parcel : (rounds : ℕ) → sealed 1 rounds (zeros 128) ≡ zeros 160
+  -- P10 and P11 with every count of rounds, over the section 4 start
+  pub zero-tags : (rounds : ℕ) → (sealedOld 1 rounds [] ≡ zeros 32) × (sealedOld 2 rounds [] ≡ zeros 32)
+  pub zero-parcel : (rounds : ℕ) → sealedOld 1 rounds (zeros 128) ≡ zeros 160

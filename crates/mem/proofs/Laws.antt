@@ -1,9 +1,10 @@
 -- Laws of the masks (i, j, k), of E and of D. Assumes nothing.
 use mathlib.Core.Path.{_≡_, refl, sym, ap, _∙_}
-use mathlib.Core.List.{List, _++_}
-use Prim.Native.Nat.{ℕ, zero, suc, _^_}
+use mathlib.Core.List.{List, _∷_, _++_}
+use Prim.Native.Nat.{ℕ, zero, suc, _%_, _^_, _<_}
+use native.Mathlib.Nat.{mod-lt}
 use lib.Dec.{lit<}
-use lib.ListN.{length-append}
+use lib.ListN.{getD, length-append}
 use Rattle.words.specs.Sequence.{tab, times, zeros}
 use Rattle.words.specs.Block.{Block, Bytes, wordAt, xorBlock}
 use Rattle.words.specs.Undo.{Undo}
@@ -14,7 +15,7 @@ use Rattle.words.proofs.Maps.{undo-then}
 use Rattle.permutation.proofs.Undone.{perm-undo, perm-block}
 use Rattle.masks.specs.Steps.{alpha, beta, gamma}
 use Rattle.masks.proofs.Laws.{alpha-block, beta-block, gamma-block, alpha-beta, alpha-gamma, beta-gamma}
-use Rattle.mem.specs.Mem.{startBlock, startOf, maskAt, encipher, decipher, E, D}
+use Rattle.mem.specs.Mem.{startWords, startBlock, startOf, oldStartBlock, oldStartOf, maskAt, encipher, decipher, E, D}
 
 -- ---- masks
 
@@ -62,18 +63,28 @@ pub E-undo : (n : ℕ) (start : List ℕ) → Block start → (i j k : ℕ) → 
 unfolding E D
 E-undo n start b i j k = cipher-undo n (maskAt start i j k) (mask-block start b i j k)
 
--- ---- the start
+-- ---- the starts
 
-pub first-block : (key nonce : List ℕ) → Bytes key → Bytes nonce → Block (startBlock key nonce)
-unfolding startBlock zeros
-first-block key nonce hk hn = record {
+below-cons : (m x : ℕ) (s : List ℕ) → x < m → ((i : ℕ) → getD s i 0 < m) → (i : ℕ) → getD (x ∷ s) i 0 < m
+below-cons m x s h hs zero = h
+below-cons m x s h hs (suc i) = hs i
+
+-- what P is taken of is a block, where the two words as given are words
+words-block : (w10 w11 : ℕ) (key nonce : List ℕ) → w10 < 2 ^ 64 → w11 < 2 ^ 64 → Bytes key → Bytes nonce → Block (startWords w10 w11 key nonce)
+unfolding startWords zeros
+words-block w10 w11 key nonce h10 h11 hk hn = record {
   long = simp (length-append, length-tab);
-  words = below-append (2 ^ 64) (tab (wordAt nonce) 2) (tab (λ i. 0) 10 ++ tab (wordAt key) 4)
+  words = below-append (2 ^ 64) (tab (wordAt nonce) 2) (tab (λ i. 0) 8 ++ (w10 ∷ w11 ∷ tab (wordAt key) 4))
       (below-tab (wordAt nonce) 2 (2 ^ 64) (lit< tt) (λ i p. wordAt-lt nonce i hn))
-      (below-append (2 ^ 64) (tab (λ i. 0) 10) (tab (wordAt key) 4) (below-tab (λ i. 0) 10 (2 ^ 64) (lit< tt) (λ i p. lit< tt))
-      (below-tab (wordAt key) 4 (2 ^ 64) (lit< tt) (λ i p. wordAt-lt key i hk)));
+      (below-append (2 ^ 64) (tab (λ i. 0) 8) (w10 ∷ w11 ∷ tab (wordAt key) 4) (below-tab (λ i. 0) 8 (2 ^ 64) (lit< tt) (λ i p. lit< tt))
+      (below-cons (2 ^ 64) w10 (w11 ∷ tab (wordAt key) 4) h10 (below-cons (2 ^ 64) w11 (tab (wordAt key) 4) h11 (below-tab (wordAt key) 4 (2 ^ 64) (lit< tt) (λ i p. wordAt-lt key i hk)))));
 }
 
 pub start-block : (rounds : ℕ) (key nonce : List ℕ) → Bytes key → Bytes nonce → Block (startOf rounds key nonce)
-unfolding startOf
-start-block rounds key nonce hk hn = perm-block rounds (startBlock key nonce) (first-block key nonce hk hn)
+unfolding startOf startBlock
+start-block rounds key nonce hk hn =
+    perm-block rounds (startWords (rounds % 2 ^ 64) 256 key nonce) (words-block (rounds % 2 ^ 64) 256 key nonce (mod-lt rounds (lit< tt)) (lit< tt) hk hn)
+
+pub old-start-block : (rounds : ℕ) (key nonce : List ℕ) → Bytes key → Bytes nonce → Block (oldStartOf rounds key nonce)
+unfolding oldStartOf oldStartBlock
+old-start-block rounds key nonce hk hn = perm-block rounds (startWords 0 0 key nonce) (words-block 0 0 key nonce (lit< tt) (lit< tt) hk hn)

@@ -36,7 +36,7 @@ pub fn write_sale(key: &[u8], of: Sale, out: &mut [u8])
     let mut record = [0u8; 13];
     put_record(of, &mut record);
     put_nonce(of, &mut out[0..16]);
-    let first = start(key, &out[0..16], 6);
+    let first = start(false, key, &out[0..16], 6);
     seal(first, 6, &key[0..0], &record, &mut out[16..]);
 }
 
@@ -52,7 +52,7 @@ fn open_record(key: &[u8], body: &[u8], out: &mut [u8]) -> Opened
     requires { ⌜ (length (now key) ≡ 32) × ((length (now body) ≡ 61) × (length (now out) ≡ 13)) ⌝ }
     ensures { λ r. ⌜ (r .opens ≡ opens (now (key .entry)) (now (body .entry))) × ((r .amount ≡ numberAt 4 0 (held (now (key .entry)) (now (body .entry)))) × (r .means ≡ numberAt 1 6 (held (now (key .entry)) (now (body .entry))))) ⌝ }
 {
-    let first = start(key, &body[0..16], 6);
+    let first = start(false, key, &body[0..16], 6);
     let opens = open(first, 6, &body[0..0], &body[16..], out);
     let amount = amount_in(out);
     let means = out[6];

@@ -1,4 +1,4 @@
--- Seal and open (document 01, "Entry points and where each call is checked"). Assumes nothing.
+-- Seal and open (document 01, "Entry points and where each call is checked"; document 02, card 4, for their starts). Assumes nothing.
 use mathlib.Core.Bool.{Bool, cond}
 use mathlib.Core.List.{List, _++_}
 use Prim.Native.Nat.{ℕ, _+_, _-_}
@@ -7,7 +7,7 @@ use Rattle.answers.specs.Answers.{checked}
 use Rattle.answers.specs.declared.Ground.the-variants.{TagDiffers}
 use Rattle.answers.specs.declared.Answer.{Answer}
 use Rattle.answers.specs.declared.Answer.the-variants.{Done, Refused}
-use Rattle.mem.specs.Mem.{startOf}
+use Rattle.mem.specs.Mem.{startOf, oldStartOf}
 use Rattle.blockplan.specs.Parcel.{parcelOf, opened}
 use Rattle.checks.specs.Checks.{sealChecks, openChecks}
 use Rattle.modes.specs.Modes.{modeOf}
@@ -32,10 +32,14 @@ module _ (start : ℕ → List ℕ → List ℕ → List ℕ) (mode rounds : ℕ
       checked (openChecks mode rounds (length key) (length nonce) (length header) (length parcel) (length out)) out
       (verdict (length parcel - 32) (opened (modeOf mode rounds (start rounds key nonce)) header parcel out))
 
--- seal, under the start of section 4
+-- seal, under section 8's start
 unfoldable pub sealCall : ℕ → ℕ → List ℕ → List ℕ → List ℕ → List ℕ → List ℕ → Answer × List ℕ
 sealCall = sealFrom startOf
 
 -- open, under the same start
 unfoldable pub openCall : ℕ → ℕ → List ℕ → List ℕ → List ℕ → List ℕ → List ℕ → Answer × List ℕ
 openCall = openFrom startOf
+
+-- the call of its own that opens under the section 4 start: checked as open, and with open's effects
+unfoldable pub openOldCall : ℕ → ℕ → List ℕ → List ℕ → List ℕ → List ℕ → List ℕ → Answer × List ℕ
+openOldCall = openFrom oldStartOf

@@ -2,7 +2,7 @@
 
 #![no_std]
 
-/// The type of seal and open: mode and rounds, then key, nonce, header, input and output, each
+/// The type of seal and of both opens: mode and rounds, then key, nonce, header, input and output, each
 /// with its length.
 pub type Sealing = unsafe extern "C" fn(
     u32,
@@ -38,6 +38,39 @@ extern "C" {
 
     /// Opens; the arguments are those of `calmbaize_open`.
     pub fn baseline_open(
+        mode: u32,
+        rounds: u32,
+        key: *const u8,
+        key_len: usize,
+        nonce: *const u8,
+        nonce_len: usize,
+        header: *const u8,
+        header_len: usize,
+        input: *const u8,
+        input_len: usize,
+        output: *mut u8,
+        output_len: usize,
+    ) -> u64;
+
+    /// Opens under the old start; the arguments are those of `calmbaize_open_old`.
+    pub fn baseline_open_old(
+        mode: u32,
+        rounds: u32,
+        key: *const u8,
+        key_len: usize,
+        nonce: *const u8,
+        nonce_len: usize,
+        header: *const u8,
+        header_len: usize,
+        input: *const u8,
+        input_len: usize,
+        output: *mut u8,
+        output_len: usize,
+    ) -> u64;
+
+    /// Seals under the old start, which the library has no call for; the arguments are those of
+    /// `calmbaize_seal`.
+    pub fn baseline_seal_old(
         mode: u32,
         rounds: u32,
         key: *const u8,

@@ -4,7 +4,7 @@ use crate::measure::Case;
 use crate::sodium::Sodium;
 use crate::table::grouped;
 use baseline::Sealing;
-use reference::{MRO, OPP};
+use reference::{Start, MRO, OPP};
 use std::fmt;
 
 /// Message lengths in bytes. The first is a sale record.
@@ -72,6 +72,8 @@ pub enum Operation {
     Open,
     /// Opening a parcel whose tag differs.
     Refuse,
+    /// Opening a parcel of the old start, which libsodium's ciphers don't have.
+    OpenOld,
 }
 
 impl fmt::Display for Operation {
@@ -80,12 +82,18 @@ impl fmt::Display for Operation {
             Self::Seal => "seal",
             Self::Open => "open",
             Self::Refuse => "open, refused",
+            Self::OpenOld => "open, old start",
         })
     }
 }
 
 /// Which calls are made.
-pub const OPERATIONS: [Operation; 3] = [Operation::Seal, Operation::Open, Operation::Refuse];
+pub const OPERATIONS: [Operation; 4] = [
+    Operation::Seal,
+    Operation::Open,
+    Operation::Refuse,
+    Operation::OpenOld,
+];
 
 /// A case's name.
 #[derive(Clone, Copy, Debug, PartialEq, Eq)]
@@ -121,7 +129,7 @@ pub fn case(
     let sealing = key.operation == Operation::Seal;
     let wanted = match key.operation {
         Operation::Seal => parcel.len() as u64,
-        Operation::Open => message.len() as u64,
+        Operation::Open | Operation::OpenOld => message.len() as u64,
         Operation::Refuse => TAG_DIFFERS,
     };
     let (input, mut output) = if sealing {
@@ -139,29 +147,33 @@ pub fn all(sodium: Option<&Sodium>) -> Vec<Case<Key>> {
     for operation in OPERATIONS {
         for len in [0].into_iter().chain(LENGTHS) {
             for setting in settings() {
-                for seal_open in SealOpen::all() {
+                for seal_open in SealOpen::all(operation) {
                     cases.push(seal_open.case(setting, operation, len));
                 }
             }
-            cases.extend(
-                sodium
-                    .iter()
-                    .flat_map(|sodium| sodium.cases(operation, len)),
-            );
+            let sodium = sodium.iter().filter(|_| operation != Operation::OpenOld);
+            cases.extend(sodium.flat_map(|sodium| sodium.cases(operation, len)));
         }
     }
     cases
 }
 
-/// An implementation of this construction.
+/// An implementation of this construction under one start.
 #[derive(Clone, Copy)]
 enum SealOpen {
     Foreign(Implementation, Sealing, Sealing),
-    Reference,
+    Reference(Start),
 }
 
 impl SealOpen {
-    fn all() -> Vec<Self> {
+    fn all(operation: Operation) -> Vec<Self> {
+        match operation {
+            Operation::OpenOld => Self::all_old(),
+            _ => Self::all_new(),
+        }
+    }
+
+    fn all_new() -> Vec<Self> {
         vec![
             #[cfg(feature = "archive")]
             Self::Foreign(
@@ -174,14 +186,32 @@ impl SealOpen {
                 baseline::baseline_seal,
                 baseline::baseline_open,
             ),
-            Self::Reference,
+            Self::Reference(Start::New),
+        ]
+    }
+
+    /// The library does not seal under the old start.
+    fn all_old() -> Vec<Self> {
+        vec![
+            #[cfg(feature = "archive")]
+            Self::Foreign(
+                Implementation::Library,
+                baseline::baseline_seal_old,
+                calmbaize::ffi::calmbaize_open_old,
+            ),
+            Self::Foreign(
+                Implementation::ScalarC,
+                baseline::baseline_seal_old,
+                baseline::baseline_open_old,
+            ),
+            Self::Reference(Start::Old),
         ]
     }
 
     fn case(self, setting: Setting, operation: Operation, len: usize) -> Case<Key> {
         let implementation = match self {
             Self::Foreign(implementation, ..) => implementation,
-            Self::Reference => Implementation::Reference,
+            Self::Reference(_) => Implementation::Reference,
         };
         let settings = setting.expect("a mode and a round count");
         let key = Key {
@@ -218,13 +248,14 @@ impl SealOpen {
                     )
                 }
             }
-            Self::Reference => {
+            Self::Reference(start) => {
                 let call = if seal {
-                    reference::seal
+                    reference::seal_under
                 } else {
-                    reference::open
+                    reference::open_under
                 };
-                match call(mode, rounds, &KEY, nonce, &[], input, output) {
+                let inputs = [&KEY, nonce, &[], input];
+                match call(start, mode, rounds, inputs, output) {
                     Ok(written) => written as u64,
                     Err((number, _)) => u64::from(number) << 32,
                 }

@@ -1,6 +1,6 @@
 //! The ratios of times that have a bound.
 
-use crate::cases::Operation::{Open, Refuse, Seal};
+use crate::cases::Operation::{Open, OpenOld, Refuse, Seal};
 use crate::cases::{settings, Implementation, Key, Operation, Setting, SALE};
 use crate::measure::Samples;
 use crate::stores::{StoreKey, CALLS, CELLS};
@@ -14,6 +14,8 @@ enum By {
     ScalarC,
     /// Its own sealing of as many bytes.
     Seal,
+    /// Its own opening of as many bytes, of a parcel of the new start.
+    Open,
     /// The same call with so many rounds.
     Rounds(u32),
     /// The same call of libsodium's cipher.
@@ -24,37 +26,44 @@ enum By {
 struct Bound {
     by: By,
     settings: fn() -> Vec<Setting>,
-    operations: [Operation; 2],
+    operations: &'static [Operation],
     len: usize,
     most: f64,
 }
 
-const BOUNDS: [Bound; 4] = [
+const BOUNDS: [Bound; 5] = [
     Bound {
         by: By::ScalarC,
         settings,
-        operations: [Seal, Open],
+        operations: &[Seal, Open],
         len: 65_536,
         most: 1.15,
     },
     Bound {
         by: By::Seal,
         settings,
-        operations: [Open, Refuse],
+        operations: &[Open, Refuse],
         len: 65_536,
         most: 1.10,
     },
     Bound {
+        by: By::Open,
+        settings,
+        operations: &[OpenOld],
+        len: 65_536,
+        most: 1.05,
+    },
+    Bound {
         by: By::Rounds(4),
         settings: || vec![Some((OPP, 12)), Some((MRO, 12))],
-        operations: [Seal, Open],
+        operations: &[Seal, Open],
         len: 65_536,
         most: 3.10,
     },
     Bound {
         by: By::XChaCha,
         settings: || vec![SALE],
-        operations: [Seal, Open],
+        operations: &[Seal, Open],
         len: 13,
         most: 1.10,
     },
@@ -76,8 +85,8 @@ impl Bound {
             }
         };
         let pairs = (self.settings)().into_iter().flat_map(|setting| {
-            let operations = self.operations.into_iter();
-            operations.map(move |operation| (setting, operation))
+            let operations = self.operations.iter();
+            operations.map(move |&operation| (setting, operation))
         });
         pairs
             .map(|(setting, operation)| ratio(setting, operation))
@@ -95,6 +104,10 @@ impl By {
             },
             Self::Seal => Key {
                 operation: Seal,
+                ..key
+            },
+            Self::Open => Key {
+                operation: Open,
                 ..key
             },
             Self::Rounds(rounds) => Key {
@@ -115,6 +128,7 @@ impl fmt::Display for By {
         match self {
             Self::ScalarC => Implementation::ScalarC.fmt(f),
             Self::Seal => Seal.fmt(f),
+            Self::Open => Open.fmt(f),
             Self::Rounds(rounds) => write!(f, "{rounds} rounds"),
             Self::XChaCha => Implementation::XChaCha.fmt(f),
         }

@@ -116,4 +116,40 @@ impl Aead {
         let (key, nonce) = (self.key.bytes(), nonce.bytes());
         slices::open(mode, rounds, key, nonce, header.0, parcel, output)
     }
+
+    /// Verifies and decrypts `parcel` as [`open`](Self::open) does, but under the old start, that of
+    /// versions before 0.4.0. Nothing seals under it: new parcels are [`seal`](Self::seal)'s.
+    ///
+    /// # Errors
+    ///
+    /// Those of [`open`](Self::open), with the same effects. A parcel of [`seal`](Self::seal) is
+    /// refused with [`Ground::Tag`], as one of the old start is by [`open`](Self::open).
+    ///
+    /// # Examples
+    ///
+    /// ```
+    /// use calmbaize::{Aead, Ground, Header, Key, Mode, Nonce, Rounds};
+    ///
+    /// let aead = Aead::new(Mode::Opp, Rounds::Four, Key::new([0; 32]));
+    /// // What version 0.3.0 sealed: 128 zero bytes.
+    /// let (old, mut message) = ([0; 160], [0xaa; 128]);
+    /// let (nonce, header) = (Nonce::new([0; 16]), Header::default());
+    /// assert_eq!(aead.open_old(&nonce, header, &old, &mut message), Ok(128));
+    /// assert_eq!(message, [0; 128]);
+    /// let answer = aead.open(&nonce, header, &old, &mut message);
+    /// assert_eq!(answer, Err(Ground::Tag.into()));
+    /// ```
+    ///
+    /// [`Ground::Tag`]: crate::Ground::Tag
+    pub fn open_old(
+        &self,
+        nonce: &Nonce,
+        header: Header<'_>,
+        parcel: &[u8],
+        output: &mut [u8],
+    ) -> Result<usize, Refusal> {
+        let (mode, rounds) = (self.mode as u32, self.rounds.count());
+        let (key, nonce) = (self.key.bytes(), nonce.bytes());
+        slices::open_old(mode, rounds, key, nonce, header.0, parcel, output)
+    }
 }

@@ -37,6 +37,22 @@ extern "C" {
         output_len: usize,
     ) -> u64;
 
+    /// See [`slices::open_old`](crate::slices::open_old).
+    pub fn calmbaize_open_old(
+        mode: u32,
+        rounds: u32,
+        key: *const u8,
+        key_len: usize,
+        nonce: *const u8,
+        nonce_len: usize,
+        header: *const u8,
+        header_len: usize,
+        input: *const u8,
+        input_len: usize,
+        output: *mut u8,
+        output_len: usize,
+    ) -> u64;
+
     /// See [`slices::walk`](crate::slices::walk).
     pub fn calmbaize_walk(
         start: *const u8,

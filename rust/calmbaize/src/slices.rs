@@ -78,6 +78,38 @@ pub fn open(
     seal_or_open(Call::Open, mode, rounds, inputs, output)
 }
 
+/// Verifies and decrypts `parcel` as [`open`] does, but under the old start, that of versions before
+/// 0.4.0. No call seals under it.
+///
+/// # Errors
+///
+/// Those of [`open`], with the same effects: a parcel of [`seal`] is refused with 9, as one of the
+/// old start is by [`open`].
+///
+/// # Examples
+///
+/// ```
+/// use calmbaize::{slices, Ground};
+///
+/// // What version 0.3.0 sealed with a key and a nonce of zeros: an empty message.
+/// let old = [0; 32];
+/// assert_eq!(slices::open_old(1, 4, &[0; 32], &[0; 16], b"", &old, &mut []), Ok(0));
+/// let answer = slices::open(1, 4, &[0; 32], &[0; 16], b"", &old, &mut []);
+/// assert_eq!(answer, Err(Ground::Tag.into()));
+/// ```
+pub fn open_old(
+    mode: u32,
+    rounds: u32,
+    key: &[u8],
+    nonce: &[u8],
+    header: &[u8],
+    parcel: &[u8],
+    output: &mut [u8],
+) -> Result<usize, Refusal> {
+    let inputs = [key, nonce, header, parcel];
+    seal_or_open(Call::OpenOld, mode, rounds, inputs, output)
+}
+
 /// Writes the block reached from `start` by the step bytes `steps` to the first
 /// [`BLOCK_LEN`](crate::BLOCK_LEN) bytes of `output`.
 ///
@@ -154,10 +186,11 @@ pub fn jump(
     })
 }
 
-/// The two calls that take the same arguments.
+/// The calls that take the same arguments.
 enum Call {
     Seal,
     Open,
+    OpenOld,
 }
 
 fn seal_or_open(
@@ -170,6 +203,7 @@ fn seal_or_open(
     let function = match call {
         Call::Seal => ffi::calmbaize_seal,
         Call::Open => ffi::calmbaize_open,
+        Call::OpenOld => ffi::calmbaize_open_old,
     };
     // SAFETY: each pointer is valid for its length, and a mutable borrow overlaps no other.
     value(unsafe {

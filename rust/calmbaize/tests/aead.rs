@@ -25,6 +25,55 @@ fn seals_as_the_slices_do_and_opens_again() {
     }
 }
 
+/// What version 0.3.0 sealed with six rounds under OPP and MRO: "sale" with the header "post", the
+/// key's and the nonce's bytes counted up from 0.
+const OLD: [(Mode, [u8; 36]); 2] = [
+    (
+        Mode::Opp,
+        [
+            0xbc, 0x65, 0xe2, 0xd4, 0x72, 0xae, 0xc0, 0x71, 0x4c, 0x3b, 0xfb, 0xc3, 0x25, 0xe9,
+            0xd4, 0x9f, 0x89, 0xd2, 0x63, 0x67, 0x61, 0x78, 0x57, 0x0a, 0xe6, 0xa8, 0x14, 0xb7,
+            0xd0, 0x03, 0xf9, 0x40, 0xf8, 0xdf, 0xf3, 0xd2,
+        ],
+    ),
+    (
+        Mode::Mro,
+        [
+            0x1c, 0xc0, 0xd5, 0x4a, 0x06, 0x4b, 0xc8, 0xcb, 0xd4, 0x84, 0xb4, 0xfc, 0xa8, 0x87,
+            0x2e, 0xbc, 0x35, 0x84, 0x34, 0x3b, 0x36, 0x4d, 0xc5, 0x82, 0x23, 0x84, 0x63, 0x3d,
+            0x62, 0xdf, 0x96, 0x26, 0xae, 0x79, 0x29, 0xfa,
+        ],
+    ),
+];
+
+#[test]
+fn each_start_opens_its_own_parcels_alone() {
+    let (nonce, header) = (
+        Nonce::new(std::array::from_fn(|i| i as u8)),
+        Header(b"post"),
+    );
+    for (mode, old) in OLD {
+        let key = Key::new(std::array::from_fn(|i| i as u8));
+        let aead = Aead::new(mode, Rounds::Six, key);
+        let (mut new, mut message) = ([0; 36], [0xaa; 5]);
+        assert_eq!(aead.seal(&nonce, header, b"sale", &mut new), Ok(36));
+        let opened = aead.open_old(&nonce, header, &old, &mut message);
+        assert_eq!((opened, &message), (Ok(4), b"sale\xaa"));
+        let refused = aead.open(&nonce, header, &old, &mut message);
+        assert_eq!(
+            (refused, &message),
+            (Err(Ground::Tag.into()), b"\0\0\0\0\xaa")
+        );
+        let opened = aead.open(&nonce, header, &new, &mut message);
+        assert_eq!((opened, &message), (Ok(4), b"sale\xaa"));
+        let refused = aead.open_old(&nonce, header, &new, &mut message);
+        assert_eq!(
+            (refused, &message),
+            (Err(Ground::Tag.into()), b"\0\0\0\0\xaa")
+        );
+    }
+}
+
 #[test]
 fn counts_are_allowed_where_the_archive_allows_them() {
     for count in 0..1000 {

@@ -16,7 +16,8 @@ pub struct Command {
     pub run: fn(&Options) -> Result<(), Failure>,
 }
 
-const SEALING: [&str; 11] = [
+/// The option of open alone comes last.
+const OPENING: [&str; 12] = [
     "--key",
     "--key-file",
     "--nonce",
@@ -28,7 +29,10 @@ const SEALING: [&str; 11] = [
     "--input",
     "--output",
     "--hex",
+    "--old-start",
 ];
+
+const SEALING: &[&str] = OPENING.split_at(OPENING.len() - 1).0;
 
 /// A parcel may be seen by anyone. A mask is as secret as the key, since its steps and the
 /// permutation have ways back.
@@ -36,13 +40,13 @@ pub const COMMANDS: [Command; 4] = [
     Command {
         name: "seal",
         help: help::seal,
-        options: &SEALING,
+        options: SEALING,
         run: |options| output(options, seal(options)?, Access::Ordinary),
     },
     Command {
         name: "open",
         help: help::open,
-        options: &SEALING,
+        options: &OPENING,
         run: |options| output(options, open(options)?, Access::Owner),
     },
     Command {
@@ -109,7 +113,12 @@ fn open(options: &Options) -> Result<Vec<u8>, Failure> {
     let parcel = input(options, MAX_MESSAGE_LEN + TAG_LEN)?;
     let mut message = vec![0; parcel.len().saturating_sub(TAG_LEN)];
     let header = Header(&with.header);
-    let written = with.aead.open(&with.nonce, header, &parcel, &mut message)?;
+    let open = if options.has("--old-start") {
+        Aead::open_old
+    } else {
+        Aead::open
+    };
+    let written = open(&with.aead, &with.nonce, header, &parcel, &mut message)?;
     message.truncate(written);
     Ok(message)
 }

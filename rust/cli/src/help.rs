@@ -61,12 +61,14 @@ pub fn open() -> String {
     let settings = settings();
     format!(
         "\
-Verifies and decrypts a parcel. Settings must be those it was sealed with.
+Verifies and decrypts a parcel. Settings must be those it was sealed with, the
+start too: nothing seals under the old one any more.
 
 usage: calmbaize open OPTIONS
 
 options:
-{settings}  -i, --input FILE         parcel [standard input]
+{settings}      --old-start          the parcel was sealed by a version before 0.4.0
+  -i, --input FILE         parcel [standard input]
   -o, --output FILE        message [standard output]
 {HEX_AND_HELP}
 {OWNER}"

@@ -22,7 +22,7 @@ const SHORT: [(&str, &str); 11] = [
 ];
 
 /// Options without a value.
-const FLAGS: [&str; 3] = ["--hex", "--help", "--force"];
+const FLAGS: [&str; 4] = ["--hex", "--help", "--force", "--old-start"];
 
 /// The argument without an option's name, among the options of a command that takes one.
 pub const FILE: &str = "FILE";

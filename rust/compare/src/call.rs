@@ -1,8 +1,8 @@
 //! The calls that are compared, with all their arguments.
 
-use crate::library::expected;
 use crate::prng::Prng;
 use reference::store::Sale;
+use reference::{seal_under, Start};
 use std::fmt;
 
 /// An entry point with the arguments that are no buffers.
@@ -10,8 +10,12 @@ use std::fmt;
 pub enum Entry {
     /// Buffers: key, nonce, header, message.
     Seal { mode: u32, rounds: u32 },
-    /// Buffers: key, nonce, header, parcel.
-    Open { mode: u32, rounds: u32 },
+    /// Buffers: key, nonce, header, parcel. Each start has a call of its own.
+    Open {
+        start: Start,
+        mode: u32,
+        rounds: u32,
+    },
     /// Buffers: start, steps.
     Walk,
     /// Buffer: start.
@@ -39,7 +43,12 @@ impl Entry {
     pub fn name(self) -> &'static str {
         match self {
             Self::Seal { .. } => "seal",
-            Self::Open { .. } => "open",
+            Self::Open {
+                start: Start::New, ..
+            } => "open",
+            Self::Open {
+                start: Start::Old, ..
+            } => "open_old",
             Self::Walk => "walk",
             Self::Jump { .. } => "jump",
             Self::Format => "format",
@@ -70,14 +79,18 @@ impl Call {
         }
     }
 
-    /// This seal call turned into one that opens `parcel` under the same settings.
-    pub fn into_open(mut self, parcel: Vec<u8>, output_len: usize) -> Self {
+    /// This seal call turned into one that opens `parcel` under a start and the same settings.
+    pub fn into_open(mut self, start: Start, parcel: Vec<u8>, output_len: usize) -> Self {
         let Entry::Seal { mode, rounds } = self.entry else {
             panic!("{self} does not seal");
         };
         self.inputs[3] = parcel;
         Self {
-            entry: Entry::Open { mode, rounds },
+            entry: Entry::Open {
+                start,
+                mode,
+                rounds,
+            },
             inputs: self.inputs,
             output: pattern(output_len),
         }
@@ -176,10 +189,15 @@ impl Call {
         call
     }
 
-    /// What the second implementation seals in a seal call, however short its output is.
-    pub fn parcel(&self) -> Vec<u8> {
+    /// What the second implementation seals under a start in a seal call, however short its
+    /// output is; zeros where another ground refuses it.
+    pub fn parcel(&self, start: Start) -> Vec<u8> {
+        let Entry::Seal { mode, rounds } = self.entry else {
+            panic!("{self} does not seal");
+        };
         let mut parcel = vec![0; self.inputs[3].len() + 32];
-        expected(self.entry, &self.slices(), &mut parcel);
+        let inputs = std::array::from_fn(|i| &*self.inputs[i]);
+        seal_under(start, mode, rounds, inputs, &mut parcel).ok();
         parcel
     }
 }

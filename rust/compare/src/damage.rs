@@ -4,13 +4,13 @@ use crate::call::{Call, Entry};
 use crate::library::{refusal, Library};
 use crate::prng::Prng;
 use crate::report::{Check, Tally};
-use reference::{settings, MRO, OPP, ROUNDS};
+use reference::{settings, Start, MRO, OPP, ROUNDS};
 
 /// Changes an open call, or reports that it can't.
 type Damage = fn(&mut Prng, &mut Call) -> bool;
 
 /// The ways to damage an open call.
-const KINDS: [(&str, Damage); 14] = [
+const KINDS: [(&str, Damage); 15] = [
     ("a bit of the ciphertext", flip_ciphertext),
     ("a bit of the tag", flip_tag),
     ("a block cut out", cut_block),
@@ -25,6 +25,7 @@ const KINDS: [(&str, Damage); 14] = [
     ("another key", change_key),
     ("the other mode", change_mode),
     ("another round count", change_rounds),
+    ("the other start", change_start),
 ];
 
 /// Damages a call in one random way.
@@ -55,11 +56,18 @@ pub fn run(library: &Library, seed: u64) -> Tally {
 
 /// Each kind of damage that the parcel of `seal` has room for; `done` counts them.
 fn all_kinds(prng: &mut Prng, check: &mut Check, seal: Call, done: &mut [u64; KINDS.len()]) {
-    let (good, message) = sealed(check, seal);
-    let opened = check.answers(&good, message.len() as u64);
-    check.record(opened.starts_with(&message), || {
-        format!("{good}: the message does not come back")
-    });
+    for good in sealed(check, &seal) {
+        let message = &seal.inputs[3];
+        let opened = check.answers(&good, message.len() as u64);
+        check.record(opened.starts_with(message), || {
+            format!("{good}: the message does not come back")
+        });
+        damaged(prng, check, &good, done);
+    }
+}
+
+/// The same of an open call that succeeds.
+fn damaged(prng: &mut Prng, check: &mut Check, good: &Call, done: &mut [u64; KINDS.len()]) {
     for ((name, damage), done) in KINDS.iter().zip(done) {
         let mut call = good.clone();
         if !damage(prng, &mut call) {
@@ -77,20 +85,24 @@ fn all_kinds(prng: &mut Prng, check: &mut Check, seal: Call, done: &mut [u64; KI
 
 /// Each of the 256 bits of a tag counts.
 fn every_tag_bit(prng: &mut Prng, check: &mut Check, mode: u32, rounds: u32) {
-    let (good, message) = sealed(check, Call::seal(prng, mode, rounds, 9, 150));
-    for bit in 0..256 {
-        let mut call = good.clone();
-        call.inputs[3][message.len() + bit / 8] ^= 1 << (bit % 8);
-        check.answers(&call, refusal(9, 0));
+    for good in sealed(check, &Call::seal(prng, mode, rounds, 9, 150)) {
+        for bit in 0..256 {
+            let mut call = good.clone();
+            call.inputs[3][150 + bit / 8] ^= 1 << (bit % 8);
+            check.answers(&call, refusal(9, 0));
+        }
     }
 }
 
-/// An open call for the parcel that the library seals in `seal`, and its message.
-fn sealed(check: &mut Check, seal: Call) -> (Call, Vec<u8>) {
-    let message = seal.inputs[3].clone();
-    let parcel = check.answers(&seal, message.len() as u64 + 32);
-    let open = seal.into_open(parcel, message.len() + 200);
-    (open, message)
+/// Open calls for the parcel that the library seals in `seal`, and for that of the old start.
+fn sealed(check: &mut Check, seal: &Call) -> [Call; 2] {
+    let len = seal.inputs[3].len();
+    let parcel = check.answers(seal, len as u64 + 32);
+    let open = |start, parcel| seal.clone().into_open(start, parcel, len + 200);
+    [
+        open(Start::New, parcel),
+        open(Start::Old, seal.parcel(Start::Old)),
+    ]
 }
 
 /// Bytes of the ciphertext of an open call.
@@ -213,5 +225,16 @@ fn change_rounds(prng: &mut Prng, call: &mut Call) -> bool {
     };
     let others: Vec<u32> = ROUNDS.iter().copied().filter(|n| n != rounds).collect();
     *rounds = prng.pick(&others);
+    true
+}
+
+fn change_start(_: &mut Prng, call: &mut Call) -> bool {
+    let Entry::Open { start, .. } = &mut call.entry else {
+        return false;
+    };
+    *start = match start {
+        Start::New => Start::Old,
+        Start::Old => Start::New,
+    };
     true
 }

@@ -4,7 +4,7 @@ use crate::call::{pattern, Call};
 use crate::library::Library;
 use crate::prng::Prng;
 use crate::report::{Check, Tally};
-use reference::{settings, MAX_COUNT, MAX_HEADER_LEN, MAX_MESSAGE_LEN, MAX_STEPS};
+use reference::{settings, Start, MAX_COUNT, MAX_HEADER_LEN, MAX_MESSAGE_LEN, MAX_STEPS};
 
 const HEADERS: [usize; 10] = [0, 1, 127, 128, 129, 256, 257, 4095, 4096, 4097];
 const LONG: [usize; 12] = [
@@ -48,7 +48,21 @@ fn seal_and_open(prng: &mut Prng, check: &mut Check, mut seal: Call) {
     }
     seal.output = pattern(len + 32);
     let (sealed, parcel) = check.compare(&seal);
-    let mut open = seal.into_open(parcel, 0);
+    if allowed {
+        check.record(sealed == len as u64 + 32, || format!("{seal}: refused"));
+    }
+    let old = seal
+        .clone()
+        .into_open(Start::Old, seal.parcel(Start::Old), 0);
+    opens(prng, check, old, allowed, &message);
+    let new = seal.into_open(Start::New, parcel, 0);
+    opens(prng, check, new, allowed, &message);
+}
+
+/// Opens a parcel over edges of the output, and once damaged. Where it is `allowed`, its message has
+/// to come back.
+fn opens(prng: &mut Prng, check: &mut Check, mut open: Call, allowed: bool, message: &[u8]) {
+    let len = message.len();
     for output_len in [len.saturating_sub(1), len + 1, len + 100] {
         open.output = pattern(output_len);
         check.compare(&open);
@@ -56,7 +70,7 @@ fn seal_and_open(prng: &mut Prng, check: &mut Check, mut seal: Call) {
     open.output = pattern(len);
     let (opened, output) = check.compare(&open);
     if allowed {
-        let back = (sealed, opened) == (len as u64 + 32, len as u64) && output == message;
+        let back = opened == len as u64 && output == message;
         check.record(back, || format!("{open}: the message does not come back"));
     }
     let at = prng.below(len + 32);
@@ -68,8 +82,10 @@ fn seal_and_open(prng: &mut Prng, check: &mut Check, mut seal: Call) {
 fn short_parcels(prng: &mut Prng, check: &mut Check, mode: u32, rounds: u32) {
     for len in 0..=33 {
         let seal = Call::seal(prng, mode, rounds, 3, len);
-        let parcel = seal.inputs[3].clone();
-        check.compare(&seal.into_open(parcel, 40));
+        for start in [Start::New, Start::Old] {
+            let parcel = seal.inputs[3].clone();
+            check.compare(&seal.clone().into_open(start, parcel, 40));
+        }
     }
 }
 

@@ -6,7 +6,7 @@ use crate::prng::Prng;
 use crate::report::{Check, Tally};
 use crate::stores::sound::{random_sale, KIND_AT};
 use reference::store::{BODY_AT, CELL_LEN, SALE};
-use reference::{settings, MRO, OPP, ROUNDS};
+use reference::{settings, Start, MRO, OPP, ROUNDS};
 
 /// A refusal's number and the change to a good call that gives its ground.
 pub type Ground = (u32, fn(&mut Call));
@@ -24,7 +24,7 @@ const SEAL: [Ground; 7] = [
     (7, short_output),
 ];
 
-/// The grounds of open in the order of its checks, but for 8, which excludes 6.
+/// The grounds of open, under either start, in the order of its checks, but for 8, which excludes 6.
 const OPEN: [Ground; 8] = [
     (1, bad_mode),
     (2, bad_rounds),
@@ -56,9 +56,10 @@ const WALK: [Ground; 4] = [
 const JUMP: [Ground; 3] = [(10, bad_start), (11, bad_count), (7, no_output)];
 
 /// The entry points and all their grounds.
-pub const ENTRIES: [(&str, Grounds); 4] = [
+pub const ENTRIES: [(&str, Grounds); 5] = [
     ("seal", &[&SEAL]),
     ("open", &[&OPEN, &OPEN_SHORT]),
+    ("open_old", &[&OPEN, &OPEN_SHORT]),
     ("walk", &[&WALK]),
     ("jump", &[&JUMP]),
 ];
@@ -106,10 +107,15 @@ pub fn run(library: &Library, seed: u64) -> Tally {
     for (mode, rounds) in settings() {
         let seal = Call::seal(&mut prng, mode, rounds, 40, 70);
         all_sets(&mut check, &SEAL, &seal, 102);
-        let parcel = check.answers(&seal, 102);
-        let open = seal.into_open(parcel, 102);
-        all_sets(&mut check, &OPEN, &open, 70);
-        all_sets(&mut check, &OPEN_SHORT, &open, 70);
+        let parcels = [
+            (Start::New, check.answers(&seal, 102)),
+            (Start::Old, seal.parcel(Start::Old)),
+        ];
+        for (start, parcel) in parcels {
+            let open = seal.clone().into_open(start, parcel, 102);
+            all_sets(&mut check, &OPEN, &open, 70);
+            all_sets(&mut check, &OPEN_SHORT, &open, 70);
+        }
     }
     round_counts(&mut prng, &mut check);
     let walk = Call::walk(prng.bytes(128), vec![1, 5, 6], 128);
@@ -146,7 +152,9 @@ fn round_counts(prng: &mut Prng, check: &mut Check) {
         for mode in [OPP, MRO] {
             let seal = Call::seal(prng, mode, rounds, 3, 5);
             let (_, parcel) = check.compare(&seal);
-            check.compare(&seal.into_open(parcel, 5));
+            check.compare(&seal.clone().into_open(Start::New, parcel, 5));
+            let parcel = seal.parcel(Start::Old);
+            check.compare(&seal.into_open(Start::Old, parcel, 5));
         }
     }
 }

@@ -9,7 +9,7 @@ use crate::prng::Prng;
 use crate::report::Tally;
 use crate::stores::sound::Sound;
 use crate::stores::ways::WAYS;
-use reference::settings;
+use reference::{settings, Start};
 use std::collections::BTreeSet;
 
 /// Cells and sales of stores: small ones, ones of a page and a cell more, and the longest.
@@ -87,16 +87,19 @@ fn calls() -> Vec<Call> {
     calls
 }
 
-/// A seal call, one with too short an output, an open of the parcel, and one of a damaged parcel.
+/// A seal call, one with too short an output, and under each start an open of the parcel and one of
+/// a damaged parcel.
 fn sealing(calls: &mut Vec<Call>, mut seal: Call) {
-    let (parcel, len) = (seal.parcel(), seal.inputs[3].len());
+    let len = seal.inputs[3].len();
     calls.push(seal.clone());
     seal.output.pop();
     calls.push(seal.clone());
-    let mut open = seal.into_open(parcel, len);
-    calls.push(open.clone());
-    open.inputs[3][len / 2] ^= 1;
-    calls.push(open);
+    for start in [Start::New, Start::Old] {
+        let mut open = seal.clone().into_open(start, seal.parcel(start), len);
+        calls.push(open.clone());
+        open.inputs[3][len / 2] ^= 1;
+        calls.push(open);
+    }
 }
 
 /// All calls on a sound store, on parts of it, and on damaged ones.

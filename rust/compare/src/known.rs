@@ -3,7 +3,7 @@
 use crate::call::{pattern, Entry};
 use crate::library::{refusal, Library};
 use crate::report::{Check, Tally};
-use reference::{MRO, OPP, ROUNDS};
+use reference::{Start, MRO, OPP, ROUNDS};
 
 /// Every line that can be seen through the calls.
 pub fn run(library: &Library) -> Tally {
@@ -54,16 +54,23 @@ fn steps(check: &mut Check) {
     }
 }
 
-/// P10 and P11; P2 is behind both, since a start of zeros gives masks of zeros.
+/// The parcels of P10 and P11, which open under the old start and no longer under the new one. P2 is
+/// behind both, since an old start of zeros gives masks of zeros.
 fn zeros(check: &mut Check) {
     for (name, mode, len) in [("P10", OPP, 0), ("P10", MRO, 0), ("P11", OPP, 128)] {
         for &rounds in ROUNDS {
-            let mut parcel = pattern(len + 32);
-            let inputs: [&[u8]; 4] = [&[0; 32], &[0; 16], &[], &vec![0; len]];
-            let entry = Entry::Seal { mode, rounds };
-            let answer = check.library.call(entry, &inputs, &mut parcel, false);
-            let passed = answer == len as u64 + 32 && parcel == vec![0; len + 32];
-            check.record(passed, || format!("{name}: {answer:#x}"));
+            for (start, wanted) in [(Start::Old, len as u64), (Start::New, refusal(9, 0))] {
+                let mut message = pattern(len);
+                let inputs: [&[u8]; 4] = [&[0; 32], &[0; 16], &[], &vec![0; len + 32]];
+                let entry = Entry::Open {
+                    start,
+                    mode,
+                    rounds,
+                };
+                let answer = check.library.call(entry, &inputs, &mut message, false);
+                let passed = answer == wanted && message == vec![0; len];
+                check.record(passed, || format!("{name}: {answer:#x}"));
+            }
         }
     }
 }
@@ -93,14 +100,18 @@ fn sealing_limits(check: &mut Check) {
             let entry = Entry::Seal { mode, rounds };
             answers(check, name, entry, &inputs, &mut pattern(output), wanted);
         }
-        // Zero key and nonce, so a tag of zeros opens as the empty message.
+        // Zero key and nonce, so under the old start a tag of zeros opens as the empty message.
         for (name, parcel, wanted) in [
             ("a parcel of 31", vec![0; 31], refusal(8, 0)),
             ("an empty message", vec![0; 32], 0),
             ("a parcel of 32", vec![1; 32], refusal(9, 0)),
         ] {
             let inputs: [&[u8]; 4] = [&[0; 32], &[0; 16], &[], &parcel];
-            let entry = Entry::Open { mode, rounds: good };
+            let entry = Entry::Open {
+                start: Start::Old,
+                mode,
+                rounds: good,
+            };
             answers(check, name, entry, &inputs, &mut [], wanted);
         }
     }

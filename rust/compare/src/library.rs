@@ -3,7 +3,7 @@
 use crate::call::Entry;
 use baseline::Sealing;
 use reference::store::{self, Sale, CLOCK_LEN, NONCE_TAIL_LEN};
-use reference::Refusal;
+use reference::{Refusal, Start};
 
 type Walking = unsafe extern "C" fn(*const u8, usize, *const u8, usize, *mut u8, usize) -> u64;
 type Jumping = unsafe extern "C" fn(*const u8, usize, i32, i32, i32, *mut u8, usize) -> u64;
@@ -37,6 +37,7 @@ pub enum Library {
 pub struct Functions {
     seal: Sealing,
     open: Sealing,
+    open_old: Sealing,
     walk: Walking,
     jump: Jumping,
     format: Formatting,
@@ -50,6 +51,7 @@ pub struct Functions {
 pub const BASELINE: Library = Library::Foreign(Functions {
     seal: baseline::baseline_seal,
     open: baseline::baseline_open,
+    open_old: baseline::baseline_open_old,
     walk: baseline::baseline_walk,
     jump: baseline::baseline_jump,
     format: baseline::baseline_store_format,
@@ -64,6 +66,7 @@ pub const BASELINE: Library = Library::Foreign(Functions {
 pub const ARCHIVE: Option<Library> = Some(Library::Foreign(Functions {
     seal: calmbaize::ffi::calmbaize_seal,
     open: calmbaize::ffi::calmbaize_open,
+    open_old: calmbaize::ffi::calmbaize_open_old,
     walk: calmbaize::ffi::calmbaize_walk,
     jump: calmbaize::ffi::calmbaize_jump,
     format: calmbaize::ffi::calmbaize_store_format,
@@ -101,7 +104,14 @@ impl Functions {
         };
         match entry {
             Entry::Seal { mode, rounds } => sealing(self.seal, mode, rounds),
-            Entry::Open { mode, rounds } => sealing(self.open, mode, rounds),
+            Entry::Open {
+                start,
+                mode,
+                rounds,
+            } => match start {
+                Start::New => sealing(self.open, mode, rounds),
+                Start::Old => sealing(self.open_old, mode, rounds),
+            },
             // SAFETY: as above.
             Entry::Walk => unsafe { (self.walk)(at(0), len(0), at(1), len(1), out, out_len) },
             Entry::Jump { counts: [a, b, c] } => {
@@ -177,8 +187,16 @@ pub fn expected(entry: Entry, inputs: &[&[u8]], output: &mut [u8]) -> u64 {
         (Entry::Seal { mode, rounds }, [key, nonce, header, message]) => {
             reference::seal(mode, rounds, key, nonce, header, message, output)
         }
-        (Entry::Open { mode, rounds }, [key, nonce, header, parcel]) => {
-            reference::open(mode, rounds, key, nonce, header, parcel, output)
+        (
+            Entry::Open {
+                start,
+                mode,
+                rounds,
+            },
+            &[key, nonce, header, parcel],
+        ) => {
+            let inputs = [key, nonce, header, parcel];
+            reference::open_under(start, mode, rounds, inputs, output)
         }
         (Entry::Walk, [start, steps]) => reference::walk(start, steps, output),
         (Entry::Jump { counts }, [start]) => reference::jump(start, counts, output),

@@ -1,4 +1,4 @@
-//! Random calls of seal, open, walk and jump: long and short, valid, refused and damaged.
+//! Random calls of seal, both opens, walk and jump: long and short, valid, refused and damaged.
 
 use crate::call::{pattern, Call, Entry};
 use crate::damage;
@@ -7,7 +7,7 @@ use crate::library::Library;
 use crate::met::Met;
 use crate::prng::Prng;
 use crate::report::{Check, Tally};
-use reference::{MRO, OPP, ROUNDS};
+use reference::{Start, MRO, OPP, ROUNDS};
 use std::time::Instant;
 
 /// Calls among which every refusal of every entry point is met: each is drawn some fifteen times in
@@ -67,9 +67,10 @@ fn random_seal(prng: &mut Prng) -> Call {
 /// A parcel that was sealed, half of the time damaged or opened under other settings.
 fn random_open(prng: &mut Prng) -> Call {
     let sealing = random_seal(prng);
-    let parcel = sealing.parcel();
+    let start = prng.pick(&[Start::New, Start::Old]);
+    let parcel = sealing.parcel(start);
     let output_len = output_length(prng, parcel.len() - 32);
-    let mut call = sealing.into_open(parcel, output_len);
+    let mut call = sealing.into_open(start, parcel, output_len);
     if prng.once_in(2) {
         damage::random(prng, &mut call);
     }

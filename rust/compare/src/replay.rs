@@ -7,17 +7,29 @@ use crate::library::Library;
 use crate::report::Tally;
 use crate::text::shortened;
 use reference::store::{CLOCK_LEN, NONCE_TAIL_LEN};
+use reference::Start;
 
 /// Takes a case's fields, makes its call and holds the answer against the answer line.
 type Replay = fn(&Library, &mut Case) -> Result<(), String>;
 
 /// The calls that can be replayed, by their word. Another call is another line here.
-const CALLS: [(&str, Replay); 7] = [
+const CALLS: [(&str, Replay); 8] = [
     ("seal", |library, case| {
         sealing(library, case, |mode, rounds| Entry::Seal { mode, rounds })
     }),
     ("open", |library, case| {
-        sealing(library, case, |mode, rounds| Entry::Open { mode, rounds })
+        sealing(library, case, |mode, rounds| Entry::Open {
+            start: Start::New,
+            mode,
+            rounds,
+        })
+    }),
+    ("open_old", |library, case| {
+        sealing(library, case, |mode, rounds| Entry::Open {
+            start: Start::Old,
+            mode,
+            rounds,
+        })
     }),
     ("format", |library, case| {
         let store = case.lent()?;

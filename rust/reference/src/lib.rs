@@ -17,7 +17,7 @@ pub mod store;
 
 pub use block::{Block, BLOCK_LEN};
 pub use maskwalk::maskwalk;
-pub use mode::TAG_LEN;
+pub use mode::{Start, TAG_LEN};
 pub use permutation::{permute, unpermute};
 
 use mode::Cipher;
@@ -61,20 +61,8 @@ pub fn seal(
     message: &[u8],
     output: &mut [u8],
 ) -> Result<usize, Refusal> {
-    check_settings(mode, rounds, key, nonce, header)?;
-    let parcel_len = message.len() + TAG_LEN;
-    check(&[
-        (message.len() > MAX_MESSAGE_LEN, 6),
-        (output.len() < parcel_len, 7),
-    ])?;
-    let cipher = Cipher::new(rounds, key, nonce);
-    let parcel = if mode == OPP {
-        [cipher.opp_encrypt(message), cipher.opp_tag(header, message)].concat()
-    } else {
-        let tag = cipher.mro_tag(header, message);
-        [cipher.mro_transform(&tag, message), tag].concat()
-    };
-    Ok(write(&parcel, output))
+    let inputs = [key, nonce, header, message];
+    seal_under(Start::New, mode, rounds, inputs, output)
 }
 
 /// Opens `parcel` into `output`.
@@ -87,6 +75,56 @@ pub fn open(
     parcel: &[u8],
     output: &mut [u8],
 ) -> Result<usize, Refusal> {
+    let inputs = [key, nonce, header, parcel];
+    open_under(Start::New, mode, rounds, inputs, output)
+}
+
+/// Opens `parcel`, sealed under the old start, into `output`.
+pub fn open_old(
+    mode: u32,
+    rounds: u32,
+    key: &[u8],
+    nonce: &[u8],
+    header: &[u8],
+    parcel: &[u8],
+    output: &mut [u8],
+) -> Result<usize, Refusal> {
+    let inputs = [key, nonce, header, parcel];
+    open_under(Start::Old, mode, rounds, inputs, output)
+}
+
+/// Seals under either start. No call seals under the old one: it is here to have parcels to open.
+pub fn seal_under(
+    start: Start,
+    mode: u32,
+    rounds: u32,
+    [key, nonce, header, message]: [&[u8]; 4],
+    output: &mut [u8],
+) -> Result<usize, Refusal> {
+    check_settings(mode, rounds, key, nonce, header)?;
+    let parcel_len = message.len() + TAG_LEN;
+    check(&[
+        (message.len() > MAX_MESSAGE_LEN, 6),
+        (output.len() < parcel_len, 7),
+    ])?;
+    let cipher = Cipher::new(start, rounds, key, nonce);
+    let parcel = if mode == OPP {
+        [cipher.opp_encrypt(message), cipher.opp_tag(header, message)].concat()
+    } else {
+        let tag = cipher.mro_tag(header, message);
+        [cipher.mro_transform(&tag, message), tag].concat()
+    };
+    Ok(write(&parcel, output))
+}
+
+/// Opens under either start.
+pub fn open_under(
+    start: Start,
+    mode: u32,
+    rounds: u32,
+    [key, nonce, header, parcel]: [&[u8]; 4],
+    output: &mut [u8],
+) -> Result<usize, Refusal> {
     check_settings(mode, rounds, key, nonce, header)?;
     check(&[
         (parcel.len() < TAG_LEN, 8),
@@ -94,7 +132,7 @@ pub fn open(
         (output.len() + TAG_LEN < parcel.len(), 7),
     ])?;
     let (ciphertext, tag) = parcel.split_at(parcel.len() - TAG_LEN);
-    let cipher = Cipher::new(rounds, key, nonce);
+    let cipher = Cipher::new(start, rounds, key, nonce);
     let (message, expected) = if mode == OPP {
         let message = cipher.opp_decrypt(ciphertext);
         let expected = cipher.opp_tag(header, &message);

@@ -7,16 +7,30 @@ use crate::permutation::{permute, unpermute};
 /// Bytes of a tag.
 pub const TAG_LEN: usize = 32;
 
-/// A key and a nonce under one round count.
+/// What stands in words 10 and 11 of the block that the start is made of.
+#[derive(Clone, Copy, Debug, PartialEq, Eq)]
+pub enum Start {
+    /// The round count and the tag's bits, as section 8 has it: the start of all sealing.
+    New,
+    /// Zeros, as section 4 has it: only opened.
+    Old,
+}
+
+/// A key and a nonce under one start and round count.
 pub struct Cipher {
     rounds: u32,
     start: Block,
 }
 
 impl Cipher {
-    /// The section 4 form: nonce in words 0 and 1, key in words 12 to 15.
-    pub fn new(rounds: u32, key: &[u8], nonce: &[u8]) -> Self {
-        let block = from_bytes(&[nonce, &[0; 80], key].concat());
+    /// Nonce in words 0 and 1, key in words 12 to 15.
+    pub fn new(start: Start, rounds: u32, key: &[u8], nonce: &[u8]) -> Self {
+        let words = match start {
+            Start::New => [u64::from(rounds), 8 * TAG_LEN as u64],
+            Start::Old => [0; 2],
+        };
+        let words = words.map(u64::to_le_bytes).concat();
+        let block = from_bytes(&[nonce, &[0; 64], &words, key].concat());
         Self {
             rounds,
             start: permute(rounds, &block),

@@ -1,8 +1,10 @@
-//! Known answers of the four entry points. Those of single steps are tested beside the code.
+//! Known answers of the entry points but those of the store. Those of single steps are tested beside
+//! the code.
 
-use reference::{jump, open, seal, settings, walk, Refusal, OPP, ROUNDS};
+use reference::{jump, open, open_old, open_under, seal, seal_under, settings, walk};
+use reference::{Refusal, Start, OPP, ROUNDS};
 
-/// A key and a nonce of zeros make every mask zero.
+/// Under the old start a key and a nonce of zeros make every mask zero.
 const ZERO: ([u8; 32], [u8; 16]) = ([0; 32], [0; 16]);
 const KEY: [u8; 32] = [0x42; 32];
 const NONCE: [u8; 16] = [0x24; 16];
@@ -22,19 +24,46 @@ fn seal_answer(header_len: usize, message_len: usize, output_len: usize) -> Resu
 
 #[test]
 fn p10_the_tag_of_nothing_is_zero() {
+    let inputs: [&[u8]; 4] = [&ZERO.0, &ZERO.1, &[], &[]];
     for (mode, rounds) in settings() {
         let mut parcel = [0xaa; 32];
-        let answer = seal(mode, rounds, &ZERO.0, &ZERO.1, &[], &[], &mut parcel);
+        let answer = seal_under(Start::Old, mode, rounds, inputs, &mut parcel);
         assert_eq!((answer, parcel), (Ok(32), [0; 32]));
+        let answer = seal(mode, rounds, &ZERO.0, &ZERO.1, &[], &[], &mut parcel);
+        assert_eq!((answer, parcel == [0; 32]), (Ok(32), false));
     }
 }
 
 #[test]
 fn p11_a_zero_block_under_opp() {
+    let inputs: [&[u8]; 4] = [&ZERO.0, &ZERO.1, &[], &[0; 128]];
     for &rounds in ROUNDS {
         let mut parcel = [0xaa; 160];
-        let answer = seal(OPP, rounds, &ZERO.0, &ZERO.1, &[], &[0; 128], &mut parcel);
+        let answer = seal_under(Start::Old, OPP, rounds, inputs, &mut parcel);
         assert_eq!((answer, parcel), (Ok(160), [0; 160]));
+    }
+}
+
+#[test]
+fn each_start_refuses_the_others_parcels() {
+    for (mode, rounds) in settings() {
+        for sealed in [Start::New, Start::Old] {
+            let mut parcel = [0; 45];
+            let inputs: [&[u8]; 4] = [&KEY, &NONCE, b"head", &[5; 13]];
+            let answer = seal_under(sealed, mode, rounds, inputs, &mut parcel);
+            assert_eq!(answer, Ok(45));
+            for opened in [Start::New, Start::Old] {
+                let inputs: [&[u8]; 4] = [&KEY, &NONCE, b"head", &parcel];
+                let mut message = [0xaa; 13];
+                let answer = open_under(opened, mode, rounds, inputs, &mut message);
+                let wanted = if opened == sealed {
+                    (Ok(13), [5; 13])
+                } else {
+                    (Err((9, 0)), [0; 13])
+                };
+                assert_eq!((answer, message), wanted);
+            }
+        }
     }
 }
 
@@ -55,7 +84,7 @@ fn lengths_at_their_limits() {
 
 #[test]
 fn short_parcels() {
-    let answer = |parcel: &[u8]| open(OPP, ROUNDS[0], &ZERO.0, &ZERO.1, &[], parcel, &mut []);
+    let answer = |parcel: &[u8]| open_old(OPP, ROUNDS[0], &ZERO.0, &ZERO.1, &[], parcel, &mut []);
     assert_eq!(answer(&[0; 31]), Err((8, 0)));
     assert_eq!(answer(&[0; 32]), Ok(0));
     assert_eq!(answer(&[1; 32]), Err((9, 0)));

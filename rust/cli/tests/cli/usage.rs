@@ -22,12 +22,14 @@ fn help(command: &[&str]) -> String {
 }
 
 /// Arguments, and what the error says.
-const WRONG: [(&[&str], &str); 27] = [
+const WRONG: [(&[&str], &str); 29] = [
     (&[], "no command"),
     (&["wrap"], "unknown command 'wrap'"),
     (&["seal"], "--key or --key-file is needed"),
     (&["seal", "--key", KEY], "--nonce or --nonce-file is needed"),
     (&["seal", "--steps", "a"], "unknown option '--steps'"),
+    (&["seal", "--old-start"], "unknown option '--old-start'"),
+    (&["open", "--old-start=yes"], "--old-start takes no value"),
     (&["seal", "--key"], "--key needs a value"),
     (
         &["seal", "--key", "0"],

@@ -3,10 +3,10 @@ use Rattle.words.specs.Sequence.{tab, zeros}
 use Rattle.words.specs.Block.{wordAt}
 use Rattle.words.proofs.Lists.{tailPart}
 use denote.Ref.{now}
-use Rattle.mem.specs.Mem.{startBlock}
+use Rattle.mem.specs.Mem.{startWords}
 use borrow.Author.Needs.{needs}
-use Rattle.mem.proofs.start.start_block.Statement.{statement}
-use Rattle.mem.proofs.start.start_block.Tie as tie
+use Rattle.mem.proofs.start.start_words.Statement.{statement}
+use Rattle.mem.proofs.start.start_words.Tie as tie
 
 load-word-requires : tie.Need-load-word-requires
 load-word-requires c κs = search needs
@@ -63,7 +63,7 @@ load-word-requires-6 : tie.Need-load-word-requires-6
 load-word-requires-6 c κs = search needs
 
 returns : tie.Need-returns
-unfolding startBlock wordAt tab zeros
+unfolding startWords wordAt tab zeros
 returns c =
     let key = now (c .before .before .before .before .before .before .before .before .before .before .before .before .args .key) in
     let nonce = now (c .before .before .before .before .before .before .before .before .before .before .before .before .args .nonce) in
@@ -80,8 +80,8 @@ returns c =
       tailPart 24 key,
     )
 
-pub start-block-spec : {M : Type 1} → statement M
-start-block-spec =
+pub start-words-spec : {M : Type 1} → statement M
+start-words-spec =
     tie.close
     (tie.spec
     load-word-requires
