@@ -5,7 +5,7 @@ ghost use mathlib.Core.Path.{_≡_};
 ghost use lib.ListN.{length};
 ghost use Rattle.mem.specs.Mem.{startWords, startFor};
 
-// The block that a start is P of, with these words between the zeros and the key.
+// The block that a start is P of, with these words in places 10 and 11.
 fn start_words(w10: u64, w11: u64, key: &[u8], nonce: &[u8]) -> [u64; 16]
     requires { ⌜ (length (now key) ≡ 32) × (length (now nonce) ≡ 16) ⌝ }
     ensures { λ r. ⌜ r ≡ startWords w10 w11 (now (key .entry)) (now (nonce .entry)) ⌝ }

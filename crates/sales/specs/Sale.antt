@@ -23,7 +23,7 @@ nonceOf x = lowBytes 4 (x .machine) ++ (lowBytes 4 (x .sale) ++ x .tail)
 unfoldable pub recordOf : Sale → List ℕ
 recordOf x = lowBytes 4 (x .amount) ++ (lowBytes 2 (x .column) ++ (lowBytes 1 (x .means) ++ x .clock))
 
--- sealing is MRO, six rounds
+-- sealing is MRO, six rounds, under the start of all sealing
 unfoldable pub saleMode : List ℕ → List ℕ → Mode
 saleMode key nonce = mroMode 6 (startOf 6 key nonce)
 
