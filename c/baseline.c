@@ -259,7 +259,7 @@ static inline void absorb(uint32_t mode, uint32_t rounds, const uint64_t start[W
     }
 }
 
-/* The round count and the tag's bits stand between nonce and key; in the old start there is zero. */
+/* The round count and the tag's bits stand between nonce and key; in the old start both are zero. */
 static void start_block(int old, uint64_t start[WORDS], uint32_t rounds, const uint8_t *key,
                         const uint8_t *nonce)
 {

@@ -42,11 +42,11 @@
 /*
  * The format of parcels and of sealed sales. It goes up by one where
  * calmbaize_seal() or calmbaize_store_take() comes to write other bytes for the
- * same arguments; no other format is opened, but by the call that is named here.
+ * same arguments. Another format is opened only by the call that is named for it.
  *
  *   1   versions before 0.4.0. The masks start from nonce and key alone, the
- *       paper's section 4. calmbaize_open_old() opens parcels, and nothing opens
- *       sales in a store.
+ *       paper's section 4. calmbaize_open_old() opens its parcels; no call of the
+ *       store opens its sales.
  *   2   the round count and the tag's bits enter the start, as in section 8
  */
 #define CALMBAIZE_FORMAT 2
@@ -210,8 +210,7 @@ uint64_t calmbaize_open(uint32_t mode, uint32_t rounds,
  *
  * Success writes the message of input_len - 32 bytes and answers that length.
  * The rest of the output is unchanged. It succeeds exactly where the parcel is
- * what sealing in format 1 makes of that message under the same settings; on
- * every other one it answers 9.
+ * what sealing in format 1 makes of that message under the same settings.
  *
  * Refused, in this order, with 1, 2, 3, 4, 5, 8, 6, 7, 9. On 9 the bytes that
  * the message would have filled are zero and the rest is unchanged; on every

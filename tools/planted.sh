@@ -277,7 +277,10 @@ planted "MRO under the old start" \
 planted "old parcels opened under the new start" \
     's/return open_from(1, /return open_from(0, /' \
     compare "$faulty" damage
-planted "parcels of either start opened" \
+planted "parcels of either start opened by open" \
+    '/^uint64_t baseline_open(/,/^}/s/return open_from(0, /uint64_t old = open_from(1, mode, rounds, key, key_len, nonce, nonce_len, header, header_len, input, input_len, output, output_len); if (old >> 32 == 0) return old; &/' \
+    compare "$faulty" damage
+planted "parcels of either start opened by open_old" \
     '/^uint64_t baseline_open_old/,/^}/s/return open_from(1, /uint64_t new = baseline_open(mode, rounds, key, key_len, nonce, nonce_len, header, header_len, input, input_len, output, output_len); if (new >> 32 == 0) return new; &/' \
     compare "$faulty" damage
 planted "a round count in the old start" \
@@ -298,6 +301,9 @@ planted "twelve rounds refused" \
 planted "sales sealed with four rounds" \
     's/ROUNDS = 6/ROUNDS = 4/' \
     compare "$faulty" store
+planted "sales of either start opened" \
+    '/^static int open_sale/,/^}/s/return/if (baseline_open_old(MRO, ROUNDS, key, KEY, cell + NUMBERS, NONCE, NULL, 0, cell + SEALED, RECORD + TAG, record, RECORD) == RECORD) return 1; &/' \
+    compare "$faulty" store-damage
 planted "sealed bytes left in a cancelled cell" \
     's/memset(cell, 0, CELL)/memset(cell, 0, SEALED)/' \
     compare "$faulty" store

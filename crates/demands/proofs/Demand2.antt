@@ -23,7 +23,7 @@ use Rattle.checks.specs.Checks.{sealChecks, openChecks}
 use Rattle.checks.proofs.Clears.{seal-after, open-after, open-inputs, parcel-inputs, message-inputs}
 use Rattle.modes.specs.Modes.{modeOf}
 use Rattle.modes.proofs.Lawful.{mode-lawful}
-use Rattle.sealing.specs.Sealing.{verdict, sealFrom, openFrom}
+use Rattle.sealing.specs.Sealing.{verdict, sealFrom, openFrom, sealCall, openCall, openOldCall}
 use Rattle.demands.specs.Demand2.{Sealable, Openable, Seals, Opens, Refuses, HandsBack, Exactly, Demand2}
 
 length-zeros : (n : ℕ) → length (zeros n) ≡ n
@@ -48,7 +48,7 @@ module _ (start : ℕ → List ℕ → List ℕ → List ℕ) (is-block : Blocks
   unfolding m
   law hk hn = mode-lawful mode rounds (start rounds key nonce) (is-block rounds key nonce hk hn)
 
-  seals : (message : List ℕ) → Sealable mode rounds key nonce header message → Seals start mode rounds key nonce header message (parcelOf m header message)
+  seals : (message : List ℕ) → Sealable mode rounds key nonce header message → Seals (sealFrom start) (openFrom start) mode rounds key nonce header message (parcelOf m header message)
   unfolding m sealFrom sealChecks checked
   seals message 𝓜 out h = rw (passed-on _ _ (seal-after _ _ _ _ _ _ (room (length message + 32) (length out) Clear)) (𝓜 .clear), roomy (length message + 32) (length out) h)
 
@@ -67,11 +67,11 @@ module _ (start : ℕ → List ℕ → List ℕ → List ℕ) (is-block : Blocks
     unfolding m openFrom openChecks checked
     answers out h = rw (passed-on _ _ (open-after _ _ _ _ _ _ (room (length parcel - 32) (length out) Clear)) (𝓟 .clear), roomy (length parcel - 32) (length out) h)
 
-    opens : genuine m header parcel ≡ true → Opens start mode rounds key nonce header parcel (messageOf m parcel)
+    opens : genuine m header parcel ≡ true → Opens (sealFrom start) (openFrom start) mode rounds key nonce header parcel (messageOf m parcel)
     unfolding verdict opened
     opens e out h = answers out (subst (λ (k : ℕ). k ≤ length out) long h) ∙ rw (e, long)
 
-    refuses : genuine m header parcel ≡ false → Refuses start mode rounds key nonce header parcel
+    refuses : genuine m header parcel ≡ false → Refuses (sealFrom start) (openFrom start) mode rounds key nonce header parcel
     unfolding verdict opened
     refuses e out h = answers out h ∙ rw e
 
@@ -95,17 +95,17 @@ module _ (start : ℕ → List ℕ → List ℕ → List ℕ) (is-block : Blocks
       bytes = parcel-bytes m law-there header message (𝓜 .bytes);
     }
 
-    hands-back : HandsBack start mode rounds key nonce header message
+    hands-back : HandsBack (sealFrom start) (openFrom start) mode rounds key nonce header message
     hands-back = (
       parcelOf m header message,
       parcel-is,
       seals message 𝓜,
-      subst (Opens start mode rounds key nonce header (parcelOf m header message)) (parcel-message m law-there header message (𝓜 .bytes))
+      subst (Opens (sealFrom start) (openFrom start) mode rounds key nonce header (parcelOf m header message)) (parcel-message m law-there header message (𝓜 .bytes))
           (opens (parcelOf m header message) parcel-is (parcel-genuine m law-there header message (𝓜 .bytes))),
     )
 
     -- seal writes one parcel for a message
-    one-parcel : (parcel : List ℕ) → Seals start mode rounds key nonce header message parcel → parcel ≡ parcelOf m header message
+    one-parcel : (parcel : List ℕ) → Seals (sealFrom start) (openFrom start) mode rounds key nonce header message parcel → parcel ≡ parcelOf m header message
     one-parcel parcel e =
         let n = length message + 32 in
         let room : n ≤ length (zeros n) = omega (arith, length-zeros n) in
@@ -114,12 +114,12 @@ module _ (start : ℕ → List ℕ → List ℕ → List ℕ) (is-block : Blocks
         = ap (λ (r : Answer × List ℕ). r .1) (sym (e (zeros n) room) ∙ seals message 𝓜 (zeros n) room) in
         sym (append-nil parcel) ∙ (rw rest at alike) ∙ append-nil (parcelOf m header message)
 
-  by-tag : (parcel : List ℕ) → Openable mode rounds key nonce header parcel → (t : Bool) → genuine m header parcel ≡ t → Exactly start mode rounds key nonce header parcel
+  by-tag : (parcel : List ℕ) → Openable mode rounds key nonce header parcel → (t : Bool) → genuine m header parcel ≡ t → Exactly (sealFrom start) (openFrom start) mode rounds key nonce header parcel
   by-tag parcel 𝓟 true e =
       inl (
         messageOf m parcel,
         message-is parcel 𝓟,
-        subst (Seals start mode rounds key nonce header (messageOf m parcel)) (message-parcel m (law-here parcel 𝓟) header parcel (𝓟 .bytes) e)
+        subst (Seals (sealFrom start) (openFrom start) mode rounds key nonce header (messageOf m parcel)) (message-parcel m (law-here parcel 𝓟) header parcel (𝓟 .bytes) e)
             (seals (messageOf m parcel) (message-is parcel 𝓟)),
         opens parcel 𝓟 e,
       )
@@ -131,16 +131,18 @@ module _ (start : ℕ → List ℕ → List ℕ → List ℕ) (is-block : Blocks
       )
 
 -- for every start that is a block
-for-start : (start : ℕ → List ℕ → List ℕ → List ℕ) → Blocks start → Demand2 start
+for-start : (start : ℕ → List ℕ → List ℕ → List ℕ) → Blocks start → Demand2 (sealFrom start) (openFrom start)
 for-start start is-block = record {
   hands-back = λ mode rounds key nonce header message 𝓜. hands-back start is-block mode rounds key nonce header message 𝓜;
   exactly = λ mode rounds key nonce header parcel 𝓟. by-tag start is-block mode rounds key nonce header parcel 𝓟 _ refl;
 }
 
--- of the calls seal and open
-pub demand2 : Demand2 startOf
+-- of the calls
+pub demand2 : Demand2 sealCall openCall
+unfolding sealCall openCall
 demand2 = for-start startOf start-block
 
--- of the call for the section 4 start, and of that start's sealing, which is in the definitions alone
-pub demand2-old : Demand2 oldStartOf
+-- of the call for the section 4 start, over that start's sealing
+pub demand2-old : Demand2 (sealFrom oldStartOf) openOldCall
+unfolding openOldCall
 demand2-old = for-start oldStartOf old-start-block

@@ -8,9 +8,9 @@ use Rattle.words.specs.Sequence.{zeros}
 use Rattle.words.specs.Block.{Bytes}
 use Rattle.answers.specs.declared.Ground.the-variants.{TagDiffers}
 use Rattle.answers.specs.declared.Check.the-variants.{Clear}
+use Rattle.answers.specs.declared.Answer.{Answer}
 use Rattle.answers.specs.declared.Answer.the-variants.{Done, Refused}
 use Rattle.checks.specs.Checks.{sealInputs, openInputs}
-use Rattle.sealing.specs.Sealing.{sealFrom, openFrom}
 
 module _ (mode rounds : ℕ) (key nonce header : List ℕ) where
   -- settings and a message that seal refuses on no ground, given room
@@ -27,24 +27,28 @@ module _ (mode rounds : ℕ) (key nonce header : List ℕ) where
     pub nonce-bytes : Bytes nonce
     pub bytes : Bytes parcel
 
-module _ (start : ℕ → List ℕ → List ℕ → List ℕ) (mode rounds : ℕ) (key nonce header : List ℕ) where
+-- what a call of mode, rounds, key, nonce, header, input and output answers and leaves in the output
+abbrev pub Call : Type 0
+Call = ℕ → ℕ → List ℕ → List ℕ → List ℕ → List ℕ → List ℕ → Answer × List ℕ
+
+module _ (sealing opening : Call) (mode rounds : ℕ) (key nonce header : List ℕ) where
   -- seal writes that parcel for that message, into every output that has room for it
   abbrev pub Seals : List ℕ → List ℕ → Type 0
   Seals message parcel =
       (out : List ℕ) → length message + 32 ≤ length out
-      → sealFrom start mode rounds key nonce header message out ≡ (Done (length message + 32), parcel ++ drop (length message + 32) out)
+      → sealing mode rounds key nonce header message out ≡ (Done (length message + 32), parcel ++ drop (length message + 32) out)
 
   -- open writes that message for that parcel, into every output that has room for it
   abbrev pub Opens : List ℕ → List ℕ → Type 0
   Opens parcel message =
       (out : List ℕ) → length message ≤ length out
-      → openFrom start mode rounds key nonce header parcel out ≡ (Done (length message), message ++ drop (length message) out)
+      → opening mode rounds key nonce header parcel out ≡ (Done (length message), message ++ drop (length message) out)
 
   -- open refuses that parcel with 9, and leaves zeros where a message would have stood
   abbrev pub Refuses : List ℕ → Type 0
   Refuses parcel =
       (out : List ℕ) → length parcel - 32 ≤ length out
-      → openFrom start mode rounds key nonce header parcel out
+      → opening mode rounds key nonce header parcel out
       ≡ (Refused TagDiffers 0, zeros (length parcel - 32) ++ drop (length parcel - 32) out)
 
   -- open of what seal writes hands back that message
@@ -57,10 +61,10 @@ module _ (start : ℕ → List ℕ → List ℕ → List ℕ) (mode rounds : ℕ
       ((message : List ℕ) × Sealable mode rounds key nonce header message × Seals message parcel × Opens parcel message)
       ⊎ (((message : List ℕ) → Sealable mode rounds key nonce header message → Seals message parcel → ⊥) × Refuses parcel)
 
--- demand 2, of seal and open under a start, with every mode and round count that the checks let pass. `Demand2 startOf` is that of the calls seal and open;
--- `Demand2 oldStartOf` has the opening rule of the call for the section 4 start, over that start's sealing, which no call does (document 02, card 4)
-pub record Demand2 (start : ℕ → List ℕ → List ℕ → List ℕ) : Type 0 where
+-- demand 2, of a call that seals and one that opens, with every mode and round count that the checks let pass. `Demand2 sealCall openCall` is that of the calls;
+-- `Demand2 (sealFrom oldStartOf) openOldCall` has the opening rule for the section 4 start, over that start's sealing, which no call does (document 02, card 4)
+pub record Demand2 (sealing opening : Call) : Type 0 where
   pub hands-back : (mode rounds : ℕ) (key nonce header message : List ℕ) → Sealable mode rounds key nonce header message
-      → HandsBack start mode rounds key nonce header message
+      → HandsBack sealing opening mode rounds key nonce header message
   pub exactly : (mode rounds : ℕ) (key nonce header parcel : List ℕ) → Openable mode rounds key nonce header parcel
-      → Exactly start mode rounds key nonce header parcel
+      → Exactly sealing opening mode rounds key nonce header parcel

@@ -19,12 +19,12 @@ use Rattle.answers.specs.declared.Check.{Check}
 use Rattle.answers.specs.declared.Check.the-variants.{Clear, Fails}
 use Rattle.answers.specs.declared.Answer.{Answer}
 use Rattle.checks.specs.Checks.{sealChecks, openChecks}
-use Rattle.sealing.specs.Sealing.{openCall, openOldCall}
+use Rattle.sealing.specs.Sealing.{sealCall, openCall, openOldCall}
 use Rattle.walking.specs.Walking.{walkChecks, jumpChecks}
 use Rattle.cells.specs.Cells.{free}
 use Rattle.cells.specs.Changes.{fresh, filled, emptied}
 use Rattle.sales.specs.declared.Sale.{Sale}
-use Rattle.sales.specs.Sale.{cashOf}
+use Rattle.sales.specs.Sale.{bodyFor, cashOf}
 use Rattle.store.specs.Store.{formatChecks, takeChecks, readChecks}
 
 -- a case: what the definitions give, and what the sheet says
@@ -74,6 +74,14 @@ sampleWords w10 w11 =
     0x0706050403020100 ∷ 0x0f0e0d0c0b0a0908 ∷ 0 ∷ 0 ∷ 0 ∷ 0 ∷ 0 ∷ 0 ∷ 0 ∷ 0 ∷ w10 ∷ w11
     ∷ 0x1716151413121110 ∷ 0x1f1e1d1c1b1a1918 ∷ 0x2726252423222120 ∷ 0x2f2e2d2c2b2a2928 ∷ []
 
+-- a tag by its four words
+unfoldable pub tag : ℕ → ℕ → ℕ → ℕ → List ℕ
+tag w0 w1 w2 w3 = lowBytes 8 w0 ++ (lowBytes 8 w1 ++ (lowBytes 8 w2 ++ lowBytes 8 w3))
+
+-- the tag of the empty message with that key and nonce, OPP and six rounds, over the section 4 start; no passage of documents 01 and 02
+unfoldable pub oldTag : List ℕ
+oldTag = tag 0x71fdb03dd1b2e91e 0x8058ed009340cf93 0xe069c35c13e7debe 0x514c91ccfc7057ba
+
 -- the parcel of a message with zero key and nonce and an empty header, over the section 4 start
 unfoldable pub sealedOld : ℕ → ℕ → List ℕ → List ℕ
 sealedOld mode rounds message = parcelOf (modeOf mode rounds (oldStartOf rounds (zeros 32) (zeros 16))) [] message
@@ -94,8 +102,8 @@ paid means = record { machine = 7; sale = 1; tail = zeros 8; amount = 150; colum
 unfoldable pub taken : ℕ → ℕ → List ℕ
 taken machine sale = lowBytes 4 machine ++ (lowBytes 4 sale ++ zeros 53)
 
--- the lines P1 to P11, of which P10 and P11 hold over the section 4 start alone; card 4's start before P, for each allowed count; maskwalk's example with "g", P with
--- twelve rounds, and the limits that the checks keep, those of card 2 too; then rows of the sale store (document 02, card 1)
+-- the lines P1 to P11, of which P10 and P11 over the section 4 start; card 4's start before P, for each allowed count, and what is sealed from it; maskwalk's example with
+-- "g", P with twelve rounds, and the limits that the checks keep, those of card 2 too; then rows of the sale store (document 02, card 1)
 unfoldable pub table : List Row
 table =
     record { got = g 1 0 0 0; want = 0x101 ∷ 0x0202000200020200 ∷ 0x0101000100010000 ∷ 0x0101000000010000 ∷ [] }  -- P1
@@ -112,13 +120,25 @@ table =
     ∷ record { got = sealedOld 1 4 (zeros 128); want = zeros 160 }  -- P11, over the section 4 start; with every round count in `zero-parcel` below
     ∷ record { got = answered (openOldCall 1 4 (zeros 32) (zeros 16) [] (zeros 160) (zeros 128)); want = 0 ∷ 128 ∷ [] }  -- that parcel opens under the section 4 start
     ∷ record { got = answered (openCall 1 4 (zeros 32) (zeros 16) [] (zeros 160) (zeros 128)); want = 9 ∷ 0 ∷ [] }  -- and not under card 4's
-    ∷ record { got = answered (openOldCall 2 4 (zeros 32) (zeros 16) [] (zeros 32) []); want = 0 ∷ 0 ∷ [] }  -- likewise P10's under MRO
+    ∷ record { got = answered (openOldCall 1 4 (zeros 32) (zeros 16) [] (zeros 32) []); want = 0 ∷ 0 ∷ [] }  -- likewise P10's, OPP and MRO
+    ∷ record { got = answered (openCall 1 4 (zeros 32) (zeros 16) [] (zeros 32) []); want = 9 ∷ 0 ∷ [] }
+    ∷ record { got = answered (openOldCall 2 4 (zeros 32) (zeros 16) [] (zeros 32) []); want = 0 ∷ 0 ∷ [] }
     ∷ record { got = answered (openCall 2 4 (zeros 32) (zeros 16) [] (zeros 32) []); want = 9 ∷ 0 ∷ [] }
     ∷ record { got = startBlock 4 sampleKey sampleNonce; want = sampleWords 4 256 }  -- card 4's start before P, with each allowed count
     ∷ record { got = startBlock 6 sampleKey sampleNonce; want = sampleWords 6 256 }
     ∷ record { got = startBlock 8 sampleKey sampleNonce; want = sampleWords 8 256 }
     ∷ record { got = startBlock 12 sampleKey sampleNonce; want = sampleWords 12 256 }
     ∷ record { got = oldStartBlock sampleKey sampleNonce; want = sampleWords 0 0 }  -- section 4's
+    ∷ record {
+      got = sealCall 1 12 sampleKey sampleNonce [] [] (zeros 32) .1;
+      want = tag 0xcb215bd593499c3f 0xb73a4e61a980aa54 0xeb5ddc07390000b6 0x91a1a84f27e1fd0b;
+    }  -- the empty message sealed from card 4's start: OPP with twelve rounds, MRO with eight; no passage of documents 01 and 02
+    ∷ record {
+      got = sealCall 2 8 sampleKey sampleNonce [] [] (zeros 32) .1;
+      want = tag 0xcda4cc643373b117 0x3de6a4b44b0cf16f 0x8fb192888d6662f4 0x72f1fea8b2167ddf;
+    }
+    ∷ record { got = answered (openOldCall 1 6 sampleKey sampleNonce [] oldTag []); want = 0 ∷ 0 ∷ [] }  -- and from section 4's: opened there, refused by open
+    ∷ record { got = answered (openCall 1 6 sampleKey sampleNonce [] oldTag []); want = 9 ∷ 0 ∷ [] }
     ∷ record { got = gamma (word 0 1); want = set (set (word 0 1) 14 0x0020000000000000) 15 0x0020000000000000 }  -- maskwalk's example
     ∷ record {
       got = emptyDigest;
@@ -150,6 +170,12 @@ table =
     ∷ record { got = found (readChecks 7 1 (fresh 2)); want = 16 ∷ 0 ∷ [] }  -- absent, and there
     ∷ record { got = found (readChecks 7 1 (filled (taken 7 1) (fresh 2))); want = 0 ∷ 0 ∷ [] }
     ∷ record { got = emptied 0 1 (filled (taken 7 1) (fresh 2)); want = fresh 2 }  -- taken and cancelled: as it was
+    ∷ record {
+      got = bodyFor sampleKey (paid 1);
+      want = 7 ∷ 0 ∷ 0 ∷ 0 ∷ 1 ∷ (zeros 11
+          ++ (0xb1 ∷ 0x69 ∷ 0x2e ∷ 0x62 ∷ 0x40 ∷ 0x70 ∷ 0xb2 ∷ 0xb2 ∷ 0x69 ∷ 0xfa ∷ 0xf0 ∷ 0x9c ∷ 0xae
+          ∷ tag 0x97ee3b7cf3049f21 0x52e9c6a734e9815f 0xac3e9f2dd5c7620b 0x83fc528bec786a11));
+    }  -- a sale's 61 bytes, sealed from card 4's start; no passage of documents 01 and 02
     ∷ record { got = cashOf (paid 1) ∷ cashOf (paid 2) ∷ []; want = 150 ∷ 0 ∷ [] }  -- means 1 counts, means 2 does not
     ∷ []
 

@@ -15,7 +15,7 @@ startWords w10 w11 key nonce = tab (wordAt nonce) 2 ++ (zeros 8 ++ (w10 ∷ w11 
 unfoldable pub startBlock : ℕ → List ℕ → List ℕ → List ℕ
 startBlock rounds key nonce = startWords (rounds % 2 ^ 64) 256 key nonce
 
--- the start, of all sealing and opening: P of that block
+-- the start, of seal, open and the store: P of that block
 unfoldable pub startOf : ℕ → List ℕ → List ℕ → List ℕ
 startOf rounds key nonce = perm rounds (startBlock rounds key nonce)
 

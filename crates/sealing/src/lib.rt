@@ -1,4 +1,4 @@
-// Seal and open: the checks in document 01's order, then a mode over the start block.
+// Seal, open and open_old: the checks in document 01's order, then a mode over a start.
 use answers::Answer;
 use answers::Check;
 use answers::Ground;

@@ -16,8 +16,9 @@ pub struct Command {
     pub run: fn(&Options) -> Result<(), Failure>,
 }
 
-/// The option of open alone comes last.
+/// The first is for open alone.
 const OPENING: [&str; 12] = [
+    "--old-start",
     "--key",
     "--key-file",
     "--nonce",
@@ -29,10 +30,9 @@ const OPENING: [&str; 12] = [
     "--input",
     "--output",
     "--hex",
-    "--old-start",
 ];
 
-const SEALING: &[&str] = OPENING.split_at(OPENING.len() - 1).0;
+const SEALING: &[&str] = OPENING.split_at(1).1;
 
 /// A parcel may be seen by anyone. A mask is as secret as the key, since its steps and the
 /// permutation have ways back.

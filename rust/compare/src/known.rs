@@ -101,14 +101,17 @@ fn sealing_limits(check: &mut Check) {
             answers(check, name, entry, &inputs, &mut pattern(output), wanted);
         }
         // Zero key and nonce, so under the old start a tag of zeros opens as the empty message.
-        for (name, parcel, wanted) in [
-            ("a parcel of 31", vec![0; 31], refusal(8, 0)),
-            ("an empty message", vec![0; 32], 0),
-            ("a parcel of 32", vec![1; 32], refusal(9, 0)),
+        for (name, start, parcel, wanted) in [
+            ("a parcel of 31", Start::New, vec![0; 31], refusal(8, 0)),
+            ("a parcel of 31", Start::Old, vec![0; 31], refusal(8, 0)),
+            ("a tag of zeros", Start::New, vec![0; 32], refusal(9, 0)),
+            ("an empty message", Start::Old, vec![0; 32], 0),
+            ("a parcel of 32", Start::New, vec![1; 32], refusal(9, 0)),
+            ("a parcel of 32", Start::Old, vec![1; 32], refusal(9, 0)),
         ] {
             let inputs: [&[u8]; 4] = [&[0; 32], &[0; 16], &[], &parcel];
             let entry = Entry::Open {
-                start: Start::Old,
+                start,
                 mode,
                 rounds: good,
             };

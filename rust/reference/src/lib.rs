@@ -79,21 +79,7 @@ pub fn open(
     open_under(Start::New, mode, rounds, inputs, output)
 }
 
-/// Opens `parcel`, sealed under the old start, into `output`.
-pub fn open_old(
-    mode: u32,
-    rounds: u32,
-    key: &[u8],
-    nonce: &[u8],
-    header: &[u8],
-    parcel: &[u8],
-    output: &mut [u8],
-) -> Result<usize, Refusal> {
-    let inputs = [key, nonce, header, parcel];
-    open_under(Start::Old, mode, rounds, inputs, output)
-}
-
-/// Seals under either start. No call seals under the old one: it is here to have parcels to open.
+/// Seals under either start. No call seals under the old one: that is here to have parcels to open.
 pub fn seal_under(
     start: Start,
     mode: u32,
@@ -117,7 +103,7 @@ pub fn seal_under(
     Ok(write(&parcel, output))
 }
 
-/// Opens under either start.
+/// Opens under either start: `open`, and under the old one `open_old`.
 pub fn open_under(
     start: Start,
     mode: u32,

@@ -1,7 +1,7 @@
 //! Known answers of the entry points but those of the store. Those of single steps are tested beside
 //! the code.
 
-use reference::{jump, open, open_old, open_under, seal, seal_under, settings, walk};
+use reference::{jump, open, open_under, seal, seal_under, settings, walk};
 use reference::{Refusal, Start, OPP, ROUNDS};
 
 /// Under the old start a key and a nonce of zeros make every mask zero.
@@ -84,7 +84,10 @@ fn lengths_at_their_limits() {
 
 #[test]
 fn short_parcels() {
-    let answer = |parcel: &[u8]| open_old(OPP, ROUNDS[0], &ZERO.0, &ZERO.1, &[], parcel, &mut []);
+    let answer = |parcel: &[u8]| {
+        let inputs: [&[u8]; 4] = [&ZERO.0, &ZERO.1, &[], parcel];
+        open_under(Start::Old, OPP, ROUNDS[0], inputs, &mut [])
+    };
     assert_eq!(answer(&[0; 31]), Err((8, 0)));
     assert_eq!(answer(&[0; 32]), Ok(0));
     assert_eq!(answer(&[1; 32]), Err((9, 0)));

@@ -12,7 +12,7 @@ same-length c = search needs
 
 returns : tie.Need-returns
 unfolding openCall
-returns c = search needs
+returns c = c .before .before .open-from .ensures
 
 pub open-spec : {M : Type 1} → statement M
 open-spec = tie.close (tie.spec open-from-requires same-length returns)

@@ -12,7 +12,7 @@ same-length c = search needs
 
 returns : tie.Need-returns
 unfolding openOldCall
-returns c = search needs
+returns c = c .before .before .open-from .ensures
 
 pub open-old-spec : {M : Type 1} → statement M
 open-old-spec = tie.close (tie.spec open-from-requires same-length returns)

@@ -3,7 +3,7 @@
 use crate::call::Call;
 use crate::prng::Prng;
 use reference::store::{Sale, BODY_AT, BODY_LEN, CELL_LEN, FREE, ROUNDS, SALE};
-use reference::{seal, MRO, NONCE_LEN};
+use reference::{seal_under, Start, MRO, NONCE_LEN};
 
 /// Where in a cell its kind is.
 pub const KIND_AT: usize = 2;
@@ -113,11 +113,17 @@ pub fn random_sale(prng: &mut Prng, machine: u32, sale: u32) -> Sale {
 
 /// A sale's nonce, sealed record and tag.
 pub fn sealed(key: &[u8], sold: &Sale) -> Vec<u8> {
-    sealed_by(MRO, ROUNDS, &[], key, sold)
+    sealed_by(Start::New, (MRO, ROUNDS), &[], key, sold)
 }
 
-/// The same under other settings.
-pub fn sealed_by(mode: u32, rounds: u32, header: &[u8], key: &[u8], sold: &Sale) -> Vec<u8> {
+/// The same under another start, another mode and round count, or another header.
+pub fn sealed_by(
+    start: Start,
+    (mode, rounds): (u32, u32),
+    header: &[u8],
+    key: &[u8],
+    sold: &Sale,
+) -> Vec<u8> {
     let mut body = [sold.machine, sold.sale].map(u32::to_le_bytes).concat();
     body.extend(sold.nonce_tail);
     let mut record = sold.amount.to_le_bytes().to_vec();
@@ -126,7 +132,8 @@ pub fn sealed_by(mode: u32, rounds: u32, header: &[u8], key: &[u8], sold: &Sale)
     record.extend(sold.clock);
     body.resize(BODY_LEN, 0);
     let (nonce, parcel) = body.split_at_mut(NONCE_LEN);
-    seal(mode, rounds, key, nonce, header, &record, parcel).expect("a sealed record");
+    let inputs = [key, nonce, header, &record];
+    seal_under(start, mode, rounds, inputs, parcel).expect("a sealed record");
     body
 }
 

@@ -3,7 +3,7 @@
 use crate::prng::Prng;
 use crate::stores::sound::{index, sealed_by, set_index, Sound, HEADS, KIND_AT};
 use reference::store::{BODY_LEN, CELL_LEN, ROUNDS};
-use reference::{MRO, NONCE_LEN, OPP, TAG_LEN};
+use reference::{Start, MRO, NONCE_LEN, OPP, TAG_LEN};
 use std::ops::Range;
 
 /// Damages a store and says what comes of it, or that this store has no room for such damage.
@@ -222,11 +222,13 @@ fn bit_of_numbers(prng: &mut Prng, store: &mut Sound) -> Option<Effect> {
 fn sealed_otherwise(prng: &mut Prng, store: &mut Sound) -> Option<Effect> {
     let place = prng.below(store.sold.len().max(1));
     let (sold, cell) = (*store.sold.get(place)?, store.chains[0][place]);
-    let body = match prng.below(4) {
-        0 => sealed_by(OPP, ROUNDS, &[], &store.key, &sold),
-        1 => sealed_by(MRO, 4, &[], &store.key, &sold),
-        2 => sealed_by(MRO, ROUNDS, &[0], &store.key, &sold),
-        _ => sealed_by(MRO, ROUNDS, &[], &prng.bytes(32), &sold),
+    let (right, key) = ((MRO, ROUNDS), &store.key);
+    let body = match prng.below(5) {
+        0 => sealed_by(Start::New, (OPP, ROUNDS), &[], key, &sold),
+        1 => sealed_by(Start::New, (MRO, 4), &[], key, &sold),
+        2 => sealed_by(Start::New, right, &[0], key, &sold),
+        3 => sealed_by(Start::New, right, &[], &prng.bytes(32), &sold),
+        _ => sealed_by(Start::Old, right, &[], key, &sold),
     };
     store.body_mut(cell).copy_from_slice(&body);
     Some(Effect::Shut(cell))
