@@ -2,7 +2,7 @@
 //! the code.
 
 use reference::{jump, open, open_under, seal, seal_under, settings, walk};
-use reference::{Refusal, Start, OPP, ROUNDS};
+use reference::{Refusal, Start, MRO, OPP, ROUNDS};
 
 /// Under the old start a key and a nonce of zeros make every mask zero.
 const ZERO: ([u8; 32], [u8; 16]) = ([0; 32], [0; 16]);
@@ -42,6 +42,52 @@ fn p11_a_zero_block_under_opp() {
         let answer = seal_under(Start::Old, OPP, rounds, inputs, &mut parcel);
         assert_eq!((answer, parcel), (Ok(160), [0; 160]));
     }
+}
+
+/// The rows of the table of known answers that have sealed bytes.
+#[test]
+fn parcels_as_in_the_table_of_known_answers() {
+    let nonce: [u8; 16] = std::array::from_fn(|i| i as u8);
+    for (start, mode, rounds, tag) in [
+        (
+            Start::New,
+            OPP,
+            12,
+            "3f9c4993d55b21cb54aa80a9614e3ab7b600003907dc5deb0bfde1274fa8a191",
+        ),
+        (
+            Start::New,
+            MRO,
+            8,
+            "17b1733364cca4cd6ff10c4bb4a4e63df462668d8892b18fdf7d16b2a8fef172",
+        ),
+        (
+            Start::Old,
+            OPP,
+            6,
+            "1ee9b2d13db0fd7193cf409300ed5880bedee7135cc369e0ba5770fccc914c51",
+        ),
+    ] {
+        assert_eq!(sealed_in_hex(start, mode, rounds, &nonce, &[]), tag);
+    }
+    let mut sale = [0; 16];
+    (sale[0], sale[4]) = (7, 1);
+    let record = [150, 0, 0, 0, 4, 0, 1, 0, 0, 0, 0, 0, 0];
+    assert_eq!(
+        sealed_in_hex(Start::New, MRO, 6, &sale, &record),
+        "b1692e624070b2b269faf09cae\
+         219f04f37c3bee975f81e934a7c6e9520b62c7d52d9f3eac116a78ec8b52fc83"
+    );
+}
+
+/// With a key of the bytes 16 to 47 and no header.
+fn sealed_in_hex(start: Start, mode: u32, rounds: u32, nonce: &[u8], message: &[u8]) -> String {
+    let key: [u8; 32] = std::array::from_fn(|i| 16 + i as u8);
+    let mut parcel = vec![0; message.len() + 32];
+    let inputs = [&key, nonce, &[], message];
+    let answer = seal_under(start, mode, rounds, inputs, &mut parcel);
+    assert_eq!(answer, Ok(parcel.len()));
+    parcel.iter().map(|byte| format!("{byte:02x}")).collect()
 }
 
 #[test]
