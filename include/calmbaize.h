@@ -42,12 +42,13 @@
 /*
  * The format of parcels and of sealed sales. It goes up by one where
  * calmbaize_seal() or calmbaize_store_take() comes to write other bytes for the
- * same arguments. Another format is opened only by the call that is named for it.
+ * same arguments. Another format is opened only by the call that this list names.
  *
  *   1   versions before 0.4.0. The masks start from nonce and key alone, the
- *       paper's section 4. calmbaize_open_old() opens its parcels; no call of the
- *       store opens its sales.
- *   2   the round count and the tag's bits enter the start, as in section 8
+ *       paper's section 4. calmbaize_open_old() opens its parcels. Its sales are
+ *       not promised to open in a store: no call of the store uses that start.
+ *   2   the round count and the tag's length in bits enter the start, as in
+ *       section 8
  */
 #define CALMBAIZE_FORMAT 2
 

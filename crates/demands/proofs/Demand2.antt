@@ -48,7 +48,7 @@ module _ (start : ℕ → List ℕ → List ℕ → List ℕ) (is-block : Blocks
   unfolding m
   law hk hn = mode-lawful mode rounds (start rounds key nonce) (is-block rounds key nonce hk hn)
 
-  seals : (message : List ℕ) → Sealable mode rounds key nonce header message → Seals (sealFrom start) (openFrom start) mode rounds key nonce header message (parcelOf m header message)
+  seals : (message : List ℕ) → Sealable mode rounds key nonce header message → Seals (sealFrom start) mode rounds key nonce header message (parcelOf m header message)
   unfolding m sealFrom sealChecks checked
   seals message 𝓜 out h = rw (passed-on _ _ (seal-after _ _ _ _ _ _ (room (length message + 32) (length out) Clear)) (𝓜 .clear), roomy (length message + 32) (length out) h)
 
@@ -67,11 +67,11 @@ module _ (start : ℕ → List ℕ → List ℕ → List ℕ) (is-block : Blocks
     unfolding m openFrom openChecks checked
     answers out h = rw (passed-on _ _ (open-after _ _ _ _ _ _ (room (length parcel - 32) (length out) Clear)) (𝓟 .clear), roomy (length parcel - 32) (length out) h)
 
-    opens : genuine m header parcel ≡ true → Opens (sealFrom start) (openFrom start) mode rounds key nonce header parcel (messageOf m parcel)
+    opens : genuine m header parcel ≡ true → Opens (openFrom start) mode rounds key nonce header parcel (messageOf m parcel)
     unfolding verdict opened
     opens e out h = answers out (subst (λ (k : ℕ). k ≤ length out) long h) ∙ rw (e, long)
 
-    refuses : genuine m header parcel ≡ false → Refuses (sealFrom start) (openFrom start) mode rounds key nonce header parcel
+    refuses : genuine m header parcel ≡ false → Refuses (openFrom start) mode rounds key nonce header parcel
     unfolding verdict opened
     refuses e out h = answers out h ∙ rw e
 
@@ -100,12 +100,12 @@ module _ (start : ℕ → List ℕ → List ℕ → List ℕ) (is-block : Blocks
       parcelOf m header message,
       parcel-is,
       seals message 𝓜,
-      subst (Opens (sealFrom start) (openFrom start) mode rounds key nonce header (parcelOf m header message)) (parcel-message m law-there header message (𝓜 .bytes))
+      subst (Opens (openFrom start) mode rounds key nonce header (parcelOf m header message)) (parcel-message m law-there header message (𝓜 .bytes))
           (opens (parcelOf m header message) parcel-is (parcel-genuine m law-there header message (𝓜 .bytes))),
     )
 
     -- seal writes one parcel for a message
-    one-parcel : (parcel : List ℕ) → Seals (sealFrom start) (openFrom start) mode rounds key nonce header message parcel → parcel ≡ parcelOf m header message
+    one-parcel : (parcel : List ℕ) → Seals (sealFrom start) mode rounds key nonce header message parcel → parcel ≡ parcelOf m header message
     one-parcel parcel e =
         let n = length message + 32 in
         let room : n ≤ length (zeros n) = omega (arith, length-zeros n) in
@@ -119,7 +119,7 @@ module _ (start : ℕ → List ℕ → List ℕ → List ℕ) (is-block : Blocks
       inl (
         messageOf m parcel,
         message-is parcel 𝓟,
-        subst (Seals (sealFrom start) (openFrom start) mode rounds key nonce header (messageOf m parcel)) (message-parcel m (law-here parcel 𝓟) header parcel (𝓟 .bytes) e)
+        subst (Seals (sealFrom start) mode rounds key nonce header (messageOf m parcel)) (message-parcel m (law-here parcel 𝓟) header parcel (𝓟 .bytes) e)
             (seals (messageOf m parcel) (message-is parcel 𝓟)),
         opens parcel 𝓟 e,
       )

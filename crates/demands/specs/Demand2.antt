@@ -31,13 +31,13 @@ module _ (mode rounds : ℕ) (key nonce header : List ℕ) where
 abbrev pub Call : Type 0
 Call = ℕ → ℕ → List ℕ → List ℕ → List ℕ → List ℕ → List ℕ → Answer × List ℕ
 
-module _ (sealing opening : Call) (mode rounds : ℕ) (key nonce header : List ℕ) where
-  -- seal writes that parcel for that message, into every output that has room for it
-  abbrev pub Seals : List ℕ → List ℕ → Type 0
-  Seals message parcel =
-      (out : List ℕ) → length message + 32 ≤ length out
-      → sealing mode rounds key nonce header message out ≡ (Done (length message + 32), parcel ++ drop (length message + 32) out)
+-- seal writes that parcel for that message, into every output that has room for it
+abbrev pub Seals : Call → ℕ → ℕ → List ℕ → List ℕ → List ℕ → List ℕ → List ℕ → Type 0
+Seals sealing mode rounds key nonce header message parcel =
+    (out : List ℕ) → length message + 32 ≤ length out
+    → sealing mode rounds key nonce header message out ≡ (Done (length message + 32), parcel ++ drop (length message + 32) out)
 
+module _ (opening : Call) (mode rounds : ℕ) (key nonce header : List ℕ) where
   -- open writes that message for that parcel, into every output that has room for it
   abbrev pub Opens : List ℕ → List ℕ → Type 0
   Opens parcel message =
@@ -51,18 +51,23 @@ module _ (sealing opening : Call) (mode rounds : ℕ) (key nonce header : List �
       → opening mode rounds key nonce header parcel out
       ≡ (Refused TagDiffers 0, zeros (length parcel - 32) ++ drop (length parcel - 32) out)
 
+module _ (sealing opening : Call) (mode rounds : ℕ) (key nonce header : List ℕ) where
   -- open of what seal writes hands back that message
   abbrev pub HandsBack : List ℕ → Type 0
-  HandsBack message = (parcel : List ℕ) × Openable mode rounds key nonce header parcel × Seals message parcel × Opens parcel message
+  HandsBack message =
+      (parcel : List ℕ) × Openable mode rounds key nonce header parcel
+      × Seals sealing mode rounds key nonce header message parcel × Opens opening mode rounds key nonce header parcel message
 
   -- open succeeds exactly where the parcel is what seal writes for some message, the message that open writes; every other is refused with 9
   abbrev pub Exactly : List ℕ → Type 0
   Exactly parcel =
-      ((message : List ℕ) × Sealable mode rounds key nonce header message × Seals message parcel × Opens parcel message)
-      ⊎ (((message : List ℕ) → Sealable mode rounds key nonce header message → Seals message parcel → ⊥) × Refuses parcel)
+      ((message : List ℕ) × Sealable mode rounds key nonce header message
+      × Seals sealing mode rounds key nonce header message parcel × Opens opening mode rounds key nonce header parcel message)
+      ⊎ (((message : List ℕ) → Sealable mode rounds key nonce header message → Seals sealing mode rounds key nonce header message parcel → ⊥)
+      × Refuses opening mode rounds key nonce header parcel)
 
 -- demand 2, of a call that seals and one that opens, with every mode and round count that the checks let pass. `Demand2 sealCall openCall` is that of the calls;
--- `Demand2 (sealFrom oldStartOf) openOldCall` has the opening rule for the section 4 start, over that start's sealing, which no call does (document 02, card 4)
+-- `Demand2 (sealFrom oldStartOf) openOldCall` has the opening rule for the section 4 start, over that start's sealing, which is no call (document 02, card 4)
 pub record Demand2 (sealing opening : Call) : Type 0 where
   pub hands-back : (mode rounds : ℕ) (key nonce header message : List ℕ) → Sealable mode rounds key nonce header message
       → HandsBack sealing opening mode rounds key nonce header message

@@ -52,6 +52,12 @@ fn parcels_as_in_the_table_of_known_answers() {
         (
             Start::New,
             OPP,
+            4,
+            "b8a4234a8bc721db2b490061f58f9bdad3b550e6b89340667f52a62f0f1a017f",
+        ),
+        (
+            Start::New,
+            OPP,
             12,
             "3f9c4993d55b21cb54aa80a9614e3ab7b600003907dc5deb0bfde1274fa8a191",
         ),
@@ -66,6 +72,12 @@ fn parcels_as_in_the_table_of_known_answers() {
             OPP,
             6,
             "1ee9b2d13db0fd7193cf409300ed5880bedee7135cc369e0ba5770fccc914c51",
+        ),
+        (
+            Start::Old,
+            MRO,
+            12,
+            "92d8e73dd484f40f92c574500b9a43c7cef43cb55fe3752623a51d453604e0b4",
         ),
     ] {
         assert_eq!(sealed_in_hex(start, mode, rounds, &nonce, &[]), tag);
