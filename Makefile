@@ -23,9 +23,9 @@ dist: $(archive) ## proves, and leaves the archive, the header and a pkg-config 
 	@tools/make-dist.sh $(archive)
 	@echo "dist: the archive, the header and a pkg-config file are in dist/"
 
-$(archive): $(sources)
+$(archive): $(sources) tools/kit.sh
 	$(if $(no_prover),$(error $(no_prover)))
-	@tools/prove.sh staticlib calmbaize
+	@RATTLE_HOME=$$(tools/kit.sh target/kit) && export RATTLE_HOME && tools/prove.sh staticlib calmbaize
 
 tool: dist ## builds the command line tool
 	@tools/need.sh cargo cargo

@@ -73,6 +73,13 @@ static void load_padded(uint64_t block[WORDS], const uint8_t *p, size_t len, uin
     load(block, bytes);
 }
 
+/* The four words of a tag. */
+static inline void load_tag(uint64_t tag[4], const uint8_t *p)
+{
+    for (int i = 0; i < 4; i++)
+        tag[i] = load64(p + 8 * i);
+}
+
 /* The permutation. */
 
 #define G(a, b, c, d)            \
@@ -99,9 +106,13 @@ static void load_padded(uint64_t block[WORDS], const uint8_t *p, size_t len, uin
         (a) -= (b);              \
     } while (0)
 
+/* Both take at least one round, which spares the compiler a way past the loop. */
+
 static inline void permute(uint32_t rounds, uint64_t s[WORDS])
 {
-    for (uint32_t r = 0; r < rounds; r++) {
+    uint32_t r = 0;
+
+    do {
         G(s[0], s[4], s[8], s[12]);
         G(s[1], s[5], s[9], s[13]);
         G(s[2], s[6], s[10], s[14]);
@@ -110,12 +121,14 @@ static inline void permute(uint32_t rounds, uint64_t s[WORDS])
         G(s[1], s[6], s[11], s[12]);
         G(s[2], s[7], s[8], s[13]);
         G(s[3], s[4], s[9], s[14]);
-    }
+    } while (++r < rounds);
 }
 
 static inline void unpermute(uint32_t rounds, uint64_t s[WORDS])
 {
-    for (uint32_t r = 0; r < rounds; r++) {
+    uint32_t r = 0;
+
+    do {
         UNG(s[3], s[4], s[9], s[14]);
         UNG(s[2], s[7], s[8], s[13]);
         UNG(s[1], s[6], s[11], s[12]);
@@ -124,12 +137,13 @@ static inline void unpermute(uint32_t rounds, uint64_t s[WORDS])
         UNG(s[2], s[6], s[10], s[14]);
         UNG(s[1], s[5], s[9], s[13]);
         UNG(s[0], s[4], s[8], s[12]);
-    }
+    } while (++r < rounds);
 }
 
 void baseline_permute(uint32_t rounds, uint64_t s[16])
 {
-    permute(rounds, s);
+    if (rounds > 0)
+        permute(rounds, s);
 }
 
 /* Steps. */
@@ -293,14 +307,18 @@ static void xor_bytes(uint8_t *out, const uint8_t *in, const uint64_t stream[WOR
 static void opp_finish(uint32_t rounds, uint64_t m[WORDS], const uint8_t *in, uint8_t *out,
                        size_t leftover, int opening, uint64_t check[WORDS])
 {
-    uint64_t block[WORDS] = {0};
+    uint64_t block[WORDS] = {0}, text[WORDS];
 
     beta(m);
     if (leftover > 0) {
         encrypt(rounds, m, block);
+        /* Before out is written: it may be in. */
+        if (!opening)
+            load_padded(text, in, leftover, 1);
         xor_bytes(out, in, block, leftover);
-        load_padded(block, opening ? out : in, leftover, 1);
-        xor_into(check, block);
+        if (opening)
+            load_padded(text, out, leftover, 1);
+        xor_into(check, text);
         beta(m);
     }
     beta(m);
@@ -325,14 +343,15 @@ static void opp_seal(uint32_t rounds, const uint64_t start[WORDS], const uint8_t
     xor_into(tag, check);
 }
 
+/* Each block goes stride bytes behind the one before: 0 where only the tag is wanted. */
 static void opp_open(uint32_t rounds, const uint64_t start[WORDS], const uint8_t *in, uint8_t *out,
-                     size_t len, uint64_t tag[WORDS])
+                     size_t stride, size_t len, uint64_t tag[WORDS])
 {
     struct masks masks;
     uint64_t block[WORDS], check[WORDS] = {0};
 
     first_mask(&masks, start, 0, 1);
-    for (; len >= BLOCK; len -= BLOCK, in += BLOCK, out += BLOCK) {
+    for (; len >= BLOCK; len -= BLOCK, in += BLOCK, out += stride) {
         load(block, in);
         decrypt(rounds, mask(&masks), block);
         xor_into(check, block);
@@ -345,17 +364,34 @@ static void opp_open(uint32_t rounds, const uint64_t start[WORDS], const uint8_t
 
 /* MRO. */
 
-static void mro_tag(uint32_t rounds, const uint64_t start[WORDS], const uint8_t *header,
-                    size_t header_len, const uint8_t *message, size_t len, uint64_t tag[WORDS])
+/* The sum over header and message becomes the tag. */
+static void mro_finish(uint32_t rounds, const uint64_t start[WORDS], size_t header_len, size_t len,
+                       uint64_t tag[WORDS])
 {
     struct masks masks;
 
-    absorb(MRO, rounds, start, 0, header, header_len, tag);
-    absorb(MRO, rounds, start, 1, message, len, tag);
     tag[14] ^= header_len;
     tag[15] ^= len;
     first_mask(&masks, start, 2, 0);
     encrypt(rounds, mask(&masks), tag);
+}
+
+static void mro_tag(uint32_t rounds, const uint64_t start[WORDS], const uint8_t *header,
+                    size_t header_len, const uint8_t *message, size_t len, uint64_t tag[WORDS])
+{
+    absorb(MRO, rounds, start, 0, header, header_len, tag);
+    absorb(MRO, rounds, start, 1, message, len, tag);
+    mro_finish(rounds, start, header_len, len, tag);
+}
+
+/* Block i of the stream under the tag; m is the mask (0, 0, 1). */
+static inline void stream_block(uint32_t rounds, const uint64_t m[WORDS], const uint64_t tag[4],
+                                uint64_t i, uint64_t block[WORDS])
+{
+    memcpy(block, tag, TAG);
+    memset(block + 4, 0, BLOCK - TAG);
+    block[15] = i;
+    encrypt(rounds, m, block);
 }
 
 /* Encrypts or decrypts under the tag. */
@@ -367,10 +403,7 @@ static void mro_stream(uint32_t rounds, const uint64_t start[WORDS], const uint6
 
     first_mask(&masks, start, 0, 1);
     for (uint64_t i = 0; len > 0; i++) {
-        memcpy(block, tag, TAG);
-        memset(block + 4, 0, BLOCK - TAG);
-        block[15] = i;
-        encrypt(rounds, mask(&masks), block);
+        stream_block(rounds, mask(&masks), tag, i, block);
         if (len < BLOCK) {
             xor_bytes(out, in, block, len);
             return;
@@ -389,10 +422,40 @@ static void mro_open(uint32_t rounds, const uint64_t start[WORDS], const uint8_t
 {
     uint64_t given[4];
 
-    for (int i = 0; i < 4; i++)
-        given[i] = load64(in + len + 8 * i);
+    load_tag(given, in + len);
     mro_stream(rounds, start, given, in, out, len);
     mro_tag(rounds, start, header, header_len, out, len, tag);
+}
+
+/* Makes the tag that mro_open() makes, and writes no message. */
+static void mro_judge(uint32_t rounds, const uint64_t start[WORDS], const uint8_t *header,
+                      size_t header_len, const uint8_t *in, size_t len, uint64_t tag[WORDS])
+{
+    struct masks stream, masks;
+    uint64_t given[4], block[WORDS], text[WORDS];
+    size_t blocks = len / BLOCK, leftover = len % BLOCK;
+
+    load_tag(given, in + len);
+    absorb(MRO, rounds, start, 0, header, header_len, tag);
+    first_mask(&stream, start, 0, 1);
+    first_mask(&masks, start, 1, 0);
+    for (size_t i = 0; i < blocks; i++, in += BLOCK) {
+        stream_block(rounds, mask(&stream), given, i, block);
+        load(text, in);
+        xor_into(block, text);
+        encrypt(rounds, mask(&masks), block);
+        xor_into(tag, block);
+        next_mask(&masks);
+    }
+    if (leftover > 0) {
+        uint8_t bytes[BLOCK] = {0};
+        stream_block(rounds, mask(&stream), given, blocks, block);
+        xor_bytes(bytes, in, block, leftover);
+        load(block, bytes);
+        encrypt(rounds, mask(&masks), block);
+        xor_into(tag, block);
+    }
+    mro_finish(rounds, start, header_len, len, tag);
 }
 
 /* Sealing and opening. */
@@ -421,6 +484,21 @@ static uint64_t check_settings(uint32_t mode, uint32_t rounds, size_t key_len, s
     return 0;
 }
 
+/* What every call that takes a parcel checks before its output. */
+static uint64_t check_parcel(uint32_t mode, uint32_t rounds, size_t key_len, size_t nonce_len,
+                             size_t header_len, size_t input_len)
+{
+    uint64_t refusal = check_settings(mode, rounds, key_len, nonce_len, header_len);
+
+    if (refusal != 0)
+        return refusal;
+    if (input_len < TAG)
+        return refuse(8, 0);
+    if (input_len - TAG > MAX_MESSAGE)
+        return refuse(6, 0);
+    return 0;
+}
+
 static int tag_differs(const uint8_t *p, const uint64_t tag[4])
 {
     uint64_t difference = 0;
@@ -430,12 +508,30 @@ static int tag_differs(const uint8_t *p, const uint64_t tag[4])
     return difference != 0;
 }
 
+/* The parcel of the len bytes of input, which may be the output. */
+static void seal_parcel(uint32_t mode, uint32_t rounds, const uint64_t start[WORDS],
+                        const uint8_t *header, size_t header_len, const uint8_t *input, size_t len,
+                        uint8_t *output)
+{
+    uint64_t tag[WORDS] = {0};
+
+    if (mode == OPP) {
+        absorb(OPP, rounds, start, 0, header, header_len, tag);
+        opp_seal(rounds, start, input, output, len, tag);
+    } else {
+        mro_tag(rounds, start, header, header_len, input, len, tag);
+        mro_stream(rounds, start, tag, input, output, len);
+    }
+    for (int i = 0; i < 4; i++)
+        store64(output + len + 8 * i, tag[i]);
+}
+
 static uint64_t seal_from(int old, uint32_t mode, uint32_t rounds, const uint8_t *key,
                           size_t key_len, const uint8_t *nonce, size_t nonce_len,
                           const uint8_t *header, size_t header_len, const uint8_t *input,
                           size_t input_len, uint8_t *output, size_t output_len)
 {
-    uint64_t start[WORDS], tag[WORDS] = {0};
+    uint64_t start[WORDS];
     uint64_t refusal = check_settings(mode, rounds, key_len, nonce_len, header_len);
 
     if (refusal != 0)
@@ -446,15 +542,7 @@ static uint64_t seal_from(int old, uint32_t mode, uint32_t rounds, const uint8_t
         return refuse(7, 0);
 
     start_block(old, start, rounds, key, nonce);
-    if (mode == OPP) {
-        absorb(OPP, rounds, start, 0, header, header_len, tag);
-        opp_seal(rounds, start, input, output, input_len, tag);
-    } else {
-        mro_tag(rounds, start, header, header_len, input, input_len, tag);
-        mro_stream(rounds, start, tag, input, output, input_len);
-    }
-    for (int i = 0; i < 4; i++)
-        store64(output + input_len + 8 * i, tag[i]);
+    seal_parcel(mode, rounds, start, header, header_len, input, input_len, output);
     return input_len + TAG;
 }
 
@@ -482,22 +570,18 @@ static uint64_t open_from(int old, uint32_t mode, uint32_t rounds, const uint8_t
                           size_t input_len, uint8_t *output, size_t output_len)
 {
     uint64_t start[WORDS], tag[WORDS] = {0};
-    uint64_t refusal = check_settings(mode, rounds, key_len, nonce_len, header_len);
+    uint64_t refusal = check_parcel(mode, rounds, key_len, nonce_len, header_len, input_len);
+    size_t len = input_len - TAG;
 
     if (refusal != 0)
         return refusal;
-    if (input_len < TAG)
-        return refuse(8, 0);
-    size_t len = input_len - TAG;
-    if (len > MAX_MESSAGE)
-        return refuse(6, 0);
     if (output_len < len)
         return refuse(7, 0);
 
     start_block(old, start, rounds, key, nonce);
     if (mode == OPP) {
         absorb(OPP, rounds, start, 0, header, header_len, tag);
-        opp_open(rounds, start, input, output, len, tag);
+        opp_open(rounds, start, input, output, BLOCK, len, tag);
     } else {
         mro_open(rounds, start, header, header_len, input, output, len, tag);
     }
@@ -525,6 +609,65 @@ uint64_t baseline_open_old(uint32_t mode, uint32_t rounds, const uint8_t *key, s
 {
     return open_from(1, mode, rounds, key, key_len, nonce, nonce_len, header, header_len, input,
                      input_len, output, output_len);
+}
+
+/* Converting. */
+
+/* Whether the parcel of a message of len bytes opens; nothing is written. */
+static int opens(uint32_t mode, uint32_t rounds, const uint64_t start[WORDS], const uint8_t *header,
+                 size_t header_len, const uint8_t *input, size_t len)
+{
+    uint64_t tag[WORDS] = {0};
+    uint8_t block[BLOCK];
+
+    if (mode == OPP) {
+        absorb(OPP, rounds, start, 0, header, header_len, tag);
+        opp_open(rounds, start, input, block, 0, len, tag);
+    } else {
+        mro_judge(rounds, start, header, header_len, input, len, tag);
+    }
+    return !tag_differs(input + len, tag);
+}
+
+/* The message of a parcel that opens. */
+static void decrypt_parcel(uint32_t mode, uint32_t rounds, const uint64_t start[WORDS],
+                           const uint8_t *input, size_t len, uint8_t *output)
+{
+    uint64_t tag[WORDS] = {0};
+
+    if (mode == OPP) {
+        opp_open(rounds, start, input, output, BLOCK, len, tag);
+    } else {
+        load_tag(tag, input + len);
+        mro_stream(rounds, start, tag, input, output, len);
+    }
+}
+
+/* The output is written only where the parcel is known to open, since a refusal leaves it as it was. */
+uint64_t baseline_convert(uint32_t mode, uint32_t rounds, const uint8_t *key, size_t key_len,
+                          const uint8_t *nonce, size_t nonce_len, const uint8_t *header,
+                          size_t header_len, const uint8_t *input, size_t input_len,
+                          uint8_t *output, size_t output_len)
+{
+    uint64_t old_start[WORDS], new_start[WORDS];
+    uint64_t refusal = check_parcel(mode, rounds, key_len, nonce_len, header_len, input_len);
+    size_t len = input_len - TAG;
+
+    if (refusal != 0)
+        return refusal;
+    if (output_len < input_len)
+        return refuse(7, 0);
+
+    start_block(1, old_start, rounds, key, nonce);
+    start_block(0, new_start, rounds, key, nonce);
+    if (!opens(mode, rounds, old_start, header, header_len, input, len)) {
+        if (opens(mode, rounds, new_start, header, header_len, input, len))
+            return refuse(17, 0);
+        return refuse(9, 0);
+    }
+    decrypt_parcel(mode, rounds, old_start, input, len, output);
+    seal_parcel(mode, rounds, new_start, header, header_len, output, len, output);
+    return input_len;
 }
 
 /* Back steps. */

@@ -29,6 +29,13 @@ uint64_t baseline_open_old(uint32_t mode, uint32_t rounds,
                            const uint8_t *input, size_t input_len,
                            uint8_t *output, size_t output_len);
 
+uint64_t baseline_convert(uint32_t mode, uint32_t rounds,
+                          const uint8_t *key, size_t key_len,
+                          const uint8_t *nonce, size_t nonce_len,
+                          const uint8_t *header, size_t header_len,
+                          const uint8_t *input, size_t input_len,
+                          uint8_t *output, size_t output_len);
+
 uint64_t baseline_walk(const uint8_t *start, size_t start_len,
                        const uint8_t *steps, size_t steps_len,
                        uint8_t *output, size_t output_len);
@@ -59,7 +66,7 @@ uint64_t baseline_store_read(const uint8_t *store, size_t store_len,
 
 /* What the library has no call for. */
 
-/* Seals under the old start, so that there are parcels for baseline_open_old() to open. */
+/* Seals under the old start, so that there are parcels to open under it and to convert. */
 uint64_t baseline_seal_old(uint32_t mode, uint32_t rounds,
                            const uint8_t *key, size_t key_len,
                            const uint8_t *nonce, size_t nonce_len,

@@ -18,8 +18,10 @@
  *     or zero, and the store and the total as they were. Compilers warn where
  *     one is dropped.
  *   - No branch and no address depends on the key, the nonce, the message, the
- *     parcel's content or its tag, or on the start of a walk or jump (checked on
- *     x86-64). Time depends on lengths, settings, step bytes and counts.
+ *     parcel's content or its tag, or on the start of a walk or jump, but for
+ *     this: in calmbaize_convert(), whether the parcel opens under each start,
+ *     which the answer tells (checked on x86-64). Time depends on lengths,
+ *     settings, step bytes and counts, and in calmbaize_convert() on the answer.
  *   - In the store, none depends on the key, on what a sale's record holds, or
  *     on its sealed bytes and tag, but for this: whether a sale opens, which the
  *     answer tells (checked on x86-64). Time depends on its length, indices,
@@ -32,9 +34,9 @@
 #include <stdint.h>
 
 /* The version, as text and as one number that grows. */
-#define CALMBAIZE_VERSION "0.4.0"
+#define CALMBAIZE_VERSION "0.5.0"
 #define CALMBAIZE_VERSION_MAJOR 0
-#define CALMBAIZE_VERSION_MINOR 4
+#define CALMBAIZE_VERSION_MINOR 5
 #define CALMBAIZE_VERSION_PATCH 0
 #define CALMBAIZE_VERSION_NUMBER \
     (CALMBAIZE_VERSION_MAJOR * 1000000 + CALMBAIZE_VERSION_MINOR * 1000 + CALMBAIZE_VERSION_PATCH)
@@ -42,13 +44,14 @@
 /*
  * The format of parcels and of sealed sales. It goes up by one where
  * calmbaize_seal() or calmbaize_store_take() comes to write other bytes for the
- * same arguments. Another format is opened only by the call that this list names.
+ * same arguments. Another format is opened only by the calls that this list names.
  *
  *   1   versions before 0.4.0. The masks start from nonce and key alone, the
- *       paper's section 4. calmbaize_open_old() opens its parcels. Its sales are
- *       not promised to open in a store: no call of the store uses that start.
+ *       paper's section 4, the old start. calmbaize_open_old() opens its parcels,
+ *       and calmbaize_convert() brings them to format 2. Its sales are not promised
+ *       to open in a store: no call of the store uses that start.
  *   2   the round count and the tag's length in bits enter the start, as in
- *       section 8
+ *       section 8, the new start
  */
 #define CALMBAIZE_FORMAT 2
 
@@ -95,6 +98,7 @@ extern "C" {
 #define CALMBAIZE_SEAL_STACK_BYTES 4096U
 #define CALMBAIZE_OPEN_STACK_BYTES 4096U
 #define CALMBAIZE_OPEN_OLD_STACK_BYTES 4096U
+#define CALMBAIZE_CONVERT_STACK_BYTES 4096U
 #define CALMBAIZE_WALK_STACK_BYTES 8192U
 #define CALMBAIZE_JUMP_STACK_BYTES 8192U
 #define CALMBAIZE_STORE_FORMAT_STACK_BYTES 1024U
@@ -137,6 +141,7 @@ extern "C" {
 #define CALMBAIZE_REFUSED_STORE_FORM 14U      /* length, index, kind or chains not a store's */
 #define CALMBAIZE_REFUSED_STORE_FULL 15U      /* no free cell */
 #define CALMBAIZE_REFUSED_SALE_NUMBERS 16U    /* numbers present on take, absent else */
+#define CALMBAIZE_REFUSED_DONE_ALREADY 17U    /* parcel opens under the new start, not the old */
 
 /* The refusal's number, or CALMBAIZE_OK. */
 static inline uint32_t calmbaize_refusal(uint64_t answer)
@@ -154,7 +159,7 @@ static inline uint32_t calmbaize_place(uint64_t answer)
     return calmbaize_refusal(answer) == CALMBAIZE_OK ? 0 : (uint32_t)answer;
 }
 
-/* The bytes written by seal, either open, walk or jump; 0 where the call was refused. */
+/* The bytes written by seal, either open, convert, walk or jump; 0 where the call was refused. */
 static inline size_t calmbaize_written(uint64_t answer)
 {
     return calmbaize_refusal(answer) == CALMBAIZE_OK ? (size_t)answer : 0;
@@ -224,6 +229,28 @@ uint64_t calmbaize_open_old(uint32_t mode, uint32_t rounds,
                             const uint8_t *header, size_t header_len,
                             const uint8_t *input, size_t input_len,
                             uint8_t *output, size_t output_len);
+
+/*
+ * Brings a parcel of format 1 over to this format: its message is sealed again
+ * with the same settings.
+ *
+ * Success writes the new parcel of input_len bytes and answers that length. The
+ * rest of the output is unchanged. It succeeds exactly where calmbaize_open_old()
+ * opens the parcel, and the new one is what calmbaize_seal() writes for that
+ * message under the same settings.
+ *
+ * Refused, in this order, with 1, 2, 3, 4, 5, 8, 6, and 7 where the output is
+ * shorter than the parcel; then, where calmbaize_open_old() does not open it, with
+ * 17 where calmbaize_open() does and with 9 where neither does. On no refusal does
+ * a byte change: unlike those two, 9 clears nothing.
+ */
+CALMBAIZE_NODISCARD
+uint64_t calmbaize_convert(uint32_t mode, uint32_t rounds,
+                           const uint8_t *key, size_t key_len,
+                           const uint8_t *nonce, size_t nonce_len,
+                           const uint8_t *header, size_t header_len,
+                           const uint8_t *input, size_t input_len,
+                           uint8_t *output, size_t output_len);
 
 /*
  * Takes the steps of a list, one after the other, from a start block.

@@ -1,7 +1,8 @@
 #!/bin/sh
-# Where the store's answer tells whether a sale opens, the machine code may branch on that, and on
-# nothing else that is secret: under every set of secrets with the same answer, cancel and total use
-# the same instructions and addresses, as valgrind's lackey writes them down.
+# Where the store's answer tells whether a sale opens, and convert's under which start a parcel does, the
+# machine code may branch on that, and on nothing else that is secret: under every set of secrets with
+# the same answer, cancel, total and convert use the same instructions and addresses, as valgrind's
+# lackey writes them down.
 #
 # usage: check-traces.sh [FOLDER]
 #
@@ -24,8 +25,8 @@ if [ ! -f "$folder/libcalmbaize.a" ]; then
     exit 2
 fi
 # With -no-pie the trace has the file's addresses.
-"${CC:-cc}" -std=c99 -O1 -g -no-pie -Wall -Wextra -I "$root/include" "$root/tools/traces.c" \
-    "$folder/libcalmbaize.a" -o "$work/traces" || exit 2
+"${CC:-cc}" -std=c99 -O1 -g -no-pie -Wall -Wextra -I "$root/include" -I "$root/c" "$root/tools/traces.c" \
+    "$root/c/baseline.c" "$folder/libcalmbaize.a" -o "$work/traces" || exit 2
 main=$(nm "$work/traces" | sed -n 's/^0*\([0-9a-f]*\) T main$/\1/p')
 [ -n "$main" ] || exit 2
 
@@ -68,6 +69,9 @@ for call in cancel total; do
     for state in whole damaged; do
         count "traces: $call, $state" same_traces "$call" "$state"
     done
+done
+for state in old new damaged; do
+    count "traces: convert, $state" same_traces convert "$state"
 done
 
 echo "$passed passed, $failed failed"

@@ -60,6 +60,16 @@ static uint64_t open(enum argument other, size_t value)
                           CALMBAIZE_NONCE_BYTES, header, 0, parcel, a[INPUT], output, a[OUTPUT]);
 }
 
+/* Of the parcel. */
+static uint64_t convert(enum argument other, size_t value)
+{
+    size_t a[ARGUMENTS] = {[INPUT] = TAG, [OUTPUT] = sizeof output};
+
+    a[other] = value;
+    return calmbaize_convert(CALMBAIZE_MODE_OPP, round_counts[0], key, CALMBAIZE_KEY_BYTES, nonce,
+                             CALMBAIZE_NONCE_BYTES, header, 0, parcel, a[INPUT], output, a[OUTPUT]);
+}
+
 /* Of no steps. */
 static uint64_t walk(enum argument other, size_t value)
 {
@@ -283,6 +293,12 @@ static uint64_t open_damaged(void)
     return open(INPUT, TAG);
 }
 
+/* An empty message's parcel, which seal makes of this format. */
+static uint64_t convert_sealed(void)
+{
+    return wrote(seal(INPUT, 0), TAG) ? convert(INPUT, TAG) : 0;
+}
+
 /* A walk's refusal has the step's place. */
 static int step_refused_at(size_t place)
 {
@@ -332,7 +348,9 @@ static void refusals_of_lengths_and_settings(void)
     REFUSE(CALMBAIZE_REFUSED_HEADER_TOO_LONG, seal(HEADER, sizeof header));
     REFUSE(CALMBAIZE_REFUSED_INPUT_TOO_LONG, seal(INPUT, sizeof message));
     REFUSE(CALMBAIZE_REFUSED_OUTPUT_TOO_SHORT, seal(OUTPUT, TAG - 1));
+    REFUSE(CALMBAIZE_REFUSED_OUTPUT_TOO_SHORT, convert(OUTPUT, TAG - 1));
     REFUSE(CALMBAIZE_REFUSED_INPUT_TOO_SHORT, open(INPUT, TAG - 1));
+    REFUSE(CALMBAIZE_REFUSED_INPUT_TOO_SHORT, convert(INPUT, TAG - 1));
     REFUSE(CALMBAIZE_REFUSED_START_LENGTH, walk(START, 0));
     REFUSE(CALMBAIZE_REFUSED_COUNT, jump(0, 0, INT32_MIN));
     REFUSE(CALMBAIZE_REFUSED_TOO_MANY_STEPS, walk(STEPS, sizeof steps));
@@ -348,6 +366,7 @@ static void other_refusals(void)
     REFUSE(CALMBAIZE_REFUSED_SALE_NUMBERS, take_twice());
     REFUSE(CALMBAIZE_REFUSED_SALE_NUMBERS, cancel(3, 2));
     REFUSE(CALMBAIZE_REFUSED_SALE_NUMBERS, read(3, 2));
+    REFUSE(CALMBAIZE_REFUSED_DONE_ALREADY, convert_sealed());
 }
 
 int main(void)

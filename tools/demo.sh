@@ -1,7 +1,7 @@
 #!/bin/sh
 # The main job with the command line tool: seals a sale, opens it, shows that a damaged parcel is
-# refused, opens a parcel of an earlier version, steps a mask on and back in two orders, and keeps
-# sales in a store.
+# refused, opens a parcel of an earlier version and converts it, alone and in a folder, steps a mask
+# on and back in two orders, and keeps sales in a store.
 #
 # usage: demo.sh CALMBAIZE
 #
@@ -54,6 +54,34 @@ echo "and without that:     $(cat error) (status $status)"
 grep -q 'refused with 9' error
 [ "$status" -eq 1 ]
 [ ! -e refused ]
+
+"$tool" convert $old_settings --input old --output new
+echo "converted:            $(hex new | cut -c 1-40)..."
+"$tool" open $old_settings --input new --output new-sale
+echo "and opened:           $(cat new-sale), without --old-start"
+[ "$(cat new-sale)" = sale ]
+status=0
+"$tool" convert $old_settings --input new --output refused 2> error || status=$?
+echo "converted again:      $(cat error) (status $status)"
+grep -q 'refused with 17' error
+[ "$status" -eq 1 ]
+[ ! -e refused ]
+
+# A card with an old parcel, a new one, and one that is neither.
+mkdir card
+cp old card/1
+cp new card/2
+cp damaged card/3
+status=0
+"$tool" convert $old_settings --input card > counts 2> error || status=$?
+echo "a folder:             $(cat counts) (status $status)"
+echo "the refused one:      $(cat error)"
+grep -qx 'converted 1, done already 1, refused 1' counts
+grep -q '^3: refused with 9' error
+[ "$status" -eq 1 ]
+cmp new card/1
+cmp new card/2
+cmp damaged card/3
 
 head -c 128 /dev/urandom > start
 "$tool" walk --steps aabgBa --input start --output one

@@ -1,7 +1,7 @@
 /*
- * A program as a user writes it, over what make install put there: seals and opens, opens parcels of
- * the format before, takes a sale and cancels it, and holds the parcels and the sale to the bytes of
- * their format.
+ * A program as a user writes it, over what make install put there: seals and opens, opens and converts
+ * parcels of the format before, takes a sale and cancels it, and holds the parcels and the sale to the
+ * bytes of their format.
  */
 #include <stdio.h>
 #include <string.h>
@@ -64,6 +64,19 @@ static int sealed_as_stated(uint32_t mode, const uint8_t stated[PARCEL])
     return calmbaize_written(answer) == PARCEL && memcmp(parcel, stated, PARCEL) == 0;
 }
 
+/* The parcel of the format before becomes the stated one, which is then refused as done already. */
+static int converted_as_stated(uint32_t mode, const uint8_t old[PARCEL], const uint8_t stated[PARCEL])
+{
+    uint8_t parcel[PARCEL], again[PARCEL];
+    uint64_t answer = calmbaize_convert(mode, ROUNDS, key, sizeof key, nonce, sizeof nonce, header,
+                                        sizeof header, old, PARCEL, parcel, PARCEL);
+    uint64_t refusal = calmbaize_convert(mode, ROUNDS, key, sizeof key, nonce, sizeof nonce, header,
+                                         sizeof header, stated, PARCEL, again, PARCEL);
+
+    return calmbaize_written(answer) == PARCEL && memcmp(parcel, stated, PARCEL) == 0 &&
+           calmbaize_refusal(refusal) == CALMBAIZE_REFUSED_DONE_ALREADY;
+}
+
 /* Both calls that open. */
 typedef uint64_t opening(uint32_t, uint32_t, const uint8_t *, size_t, const uint8_t *, size_t,
                          const uint8_t *, size_t, const uint8_t *, size_t, uint8_t *, size_t);
@@ -89,7 +102,8 @@ static int parcels_as_stated(void)
     for (int i = 0; i < 2; i++)
         hold = hold && sealed_as_stated(modes[i], parcels[i]) &&
                opened_by(calmbaize_open, calmbaize_open_old, modes[i], parcels[i]) &&
-               opened_by(calmbaize_open_old, calmbaize_open, modes[i], old_parcels[i]);
+               opened_by(calmbaize_open_old, calmbaize_open, modes[i], old_parcels[i]) &&
+               converted_as_stated(modes[i], old_parcels[i], parcels[i]);
     return hold;
 }
 

@@ -196,6 +196,27 @@ expect 0 "the same branch, by its count" "$root/tools/check-secrets.sh" "$faulty
 planted "a branch on the tag of an old parcel" \
     '/^uint64_t baseline_open_old/,/^}/s/return/if (input_len > 0 \&\& input[input_len - 1] == 1) { volatile int x = 1; (void)x; } &/' \
     "$root/tools/check-secrets.sh" "$faulty" 1
+planted "a branch on the tag of a parcel that is converted" \
+    '/^uint64_t baseline_convert/,/^}/s/start_block(1, /if (input[len] == 1) { volatile int x = 1; (void)x; } &/' \
+    "$root/tools/check-secrets.sh" "$faulty" 1
+planted "an address made of the message that is sealed again" \
+    '/^uint64_t baseline_convert/,/^}/s/seal_parcel(/volatile uint8_t x = input[output[0] % TAG]; (void)x; &/' \
+    "$root/tools/check-secrets.sh" "$faulty" 1
+expect 1 "an address made of the message, in the trace" "$root/tools/check-traces.sh" "$faulty"
+# As above: the answer comes without a branch on the new start, so that the count has room for another.
+cat > "$work/convert.sed" << 'END'
+/^uint64_t baseline_convert/,/^}/ {
+    s/if (\(opens(mode, rounds, new_start, .*)\))/uint32_t done = (uint32_t)\1; if (input[len] \& 1)/
+    s/return refuse(17, 0);/{ volatile int x = 1; (void)x; }/
+    s/return refuse(9, 0);/return refuse(9 + 8 * done, 0);/
+}
+END
+planted "a branch on the tag in place of that on the new start" "$(cat "$work/convert.sed")" \
+    "$root/tools/check-traces.sh" "$faulty"
+expect 0 "that branch, by its count" "$root/tools/check-secrets.sh" "$faulty" 1
+planted "a deep stack in convert" \
+    '/^uint64_t baseline_convert/,/^}/s/start_block(1, /volatile uint8_t deep[9000]; deep[0] = 0; &/' \
+    "$root/tools/check-stack.sh" "$faulty"
 planted "a deep stack under the old start" \
     '/^uint64_t baseline_open_old/,/^}/s/return/volatile uint8_t deep[9000]; deep[0] = 0; &/' \
     "$root/tools/check-stack.sh" "$faulty"
@@ -232,6 +253,12 @@ planted "a call that ends the program" \
 planted "a byte read past a buffer" \
     's/memcpy(bytes, p, len);/memcpy(bytes, p, len + 1);/' \
     compare "$faulty" guard
+planted "a byte read past a parcel that is converted" \
+    '/^static int opens/,/^}/s/return/volatile uint8_t x = input[len + TAG]; (void)x; &/' \
+    compare "$faulty" guard
+planted "a byte written past a parcel that convert makes" \
+    '/^uint64_t baseline_convert/,/^}/s/return input_len;/volatile uint8_t *past = output + input_len; *past = *past; &/' \
+    compare "$faulty" guard
 planted "one byte too many cleared" \
     's/memset(output, 0, len)/memset(output, 0, len + (len < output_len))/' \
     compare "$faulty" damage
@@ -251,7 +278,13 @@ planted "walk and jump that both refuse" \
     '/^uint64_t baseline_walk/,/^}/s/if (output_len < BLOCK)/if (steps_len != 1)/; /^uint64_t baseline_jump/,/^}/s/if (output_len < BLOCK)/if (1)/' \
     compare "$faulty" masks
 planted "a check out of order" \
-    's/if (input_len < TAG)/if (output_len + TAG < input_len) return refuse(7, 0); &/' \
+    '/^static uint64_t open_from/,/^}/s/= check_parcel(/= output_len + TAG < input_len ? refuse(7, 0) : check_parcel(/' \
+    compare "$faulty" grounds
+planted "a check of convert out of order" \
+    '/^uint64_t baseline_convert/,/^}/s/= check_parcel(/= output_len < input_len ? refuse(7, 0) : check_parcel(/' \
+    compare "$faulty" grounds
+planted "room for the message enough for convert" \
+    '/^uint64_t baseline_convert/,/^}/s/if (output_len < input_len)/if (output_len < len)/' \
     compare "$faulty" grounds
 planted "a bad step without its place" \
     's/refuse(12, (uint32_t)i)/refuse(12, 0)/' \
@@ -283,6 +316,27 @@ planted "parcels of either start opened by open" \
 planted "parcels of either start opened by open_old" \
     '/^uint64_t baseline_open_old/,/^}/s/return open_from(1, /uint64_t new = baseline_open(mode, rounds, key, key_len, nonce, nonce_len, header, header_len, input, input_len, output, output_len); if (new >> 32 == 0) return new; &/' \
     compare "$faulty" damage
+planted "a parcel that convert clears on 9" \
+    '/^uint64_t baseline_convert/,/^}/s/return refuse(9, 0);/memset(output, 0, len); &/' \
+    compare "$faulty" damage
+planted "a parcel that convert opens on 17" \
+    '/^uint64_t baseline_convert/,/^}/s/return refuse(17, 0);/{ decrypt_parcel(mode, rounds, new_start, input, len, output); & }/' \
+    compare "$faulty" damage
+planted "done already where neither start opens" \
+    '/^uint64_t baseline_convert/,/^}/s/refuse(9, 0)/refuse(17, 0)/' \
+    compare "$faulty" damage
+planted "a differing tag where it is done already" \
+    '/^uint64_t baseline_convert/,/^}/s/refuse(17, 0)/refuse(9, 0)/' \
+    compare "$faulty" grounds
+planted "the starts exchanged in convert" \
+    's/start_block(1, old_start/start_block(0, old_start/; s/start_block(0, new_start/start_block(1, new_start/' \
+    compare "$faulty" edges
+planted "sealed again under the old start" \
+    's/seal_parcel(mode, rounds, new_start/seal_parcel(mode, rounds, old_start/' \
+    compare "$faulty" random
+planted "sealed again without the header" \
+    's/seal_parcel(mode, rounds, new_start, header, header_len/seal_parcel(mode, rounds, new_start, header, 0/' \
+    compare "$faulty" edges
 planted "a round count in the old start" \
     's/if (!old) {/if (old) start[10] = rounds; &/' \
     compare "$faulty" known
@@ -290,7 +344,7 @@ planted "sales under the old start" \
     's/return seal_from(0, /return seal_from(input_len == 13, /; s/return open_from(0, /return open_from(input_len == 45, /' \
     compare "$faulty" store
 planted "a permutation right up to eight rounds only" \
-    's/uint32_t r = 0; r < rounds/uint32_t r = rounds \/ 9; r < rounds/' \
+    's/uint32_t r = 0;$/uint32_t r = rounds \/ 9;/' \
     compare "$faulty" random
 planted "ten rounds allowed" \
     's/= {4, 6, 8, 12};/= {4, 6, 8, 10, 12};/' \
@@ -350,6 +404,9 @@ planted "another start under the same format" \
 planted "parcels of the format before that no longer open" \
     's/if (!old) {/if (old) start[10] = rounds; &/' \
     "$root/tools/check-install.sh" "$faulty"
+planted "parcels of the format before that are not brought over" \
+    's/seal_parcel(mode, rounds, new_start/seal_parcel(mode, rounds, old_start/' \
+    "$root/tools/check-install.sh" "$faulty"
 planted "another order in the record of a sale" \
     's/AMOUNT = 0, COLUMN = 4/AMOUNT = 2, COLUMN = 0/' \
     "$root/tools/check-install.sh" "$faulty"
@@ -397,6 +454,7 @@ planted_constants "coin and card exchanged" \
     's/MEANS_COIN 1U/MEANS_COIN 2U/; s/MEANS_CARD 2U/MEANS_CARD 1U/'
 planted_constants "two refusals of the store exchanged" \
     's/STORE_FULL 15U/STORE_FULL 16U/; s/SALE_NUMBERS 16U/SALE_NUMBERS 15U/'
+planted_constants "done already under another number" 's/DONE_ALREADY 17U/DONE_ALREADY 18U/'
 planted_constants "a constant that no check holds" \
     's/^#define CALMBAIZE_STEP_ALPHA 1U/&\n#define CALMBAIZE_STEP_DELTA 7U/'
 planted "another limit than the header's" \

@@ -1,9 +1,9 @@
 /*
- * Seals and opens with the key, the nonce, the message, the parcel and its tag marked undefined, and
- * walks and jumps with the start marked so. Parcels of the old start are made by the scalar C, since
- * no call seals them. In the store the key, the record of a sale, its sealed bytes and its tag are
- * marked; indices, kinds and nonces are not. Under valgrind's memcheck every branch and every address
- * that depends on one of them is an error.
+ * Seals, opens and converts with the key, the nonce, the message, the parcel and its tag marked
+ * undefined, and walks and jumps with the start marked so. Parcels of the old start are made by the
+ * scalar C, since no call seals them. In the store the key, the record of a sale, its sealed bytes and
+ * its tag are marked; indices, kinds and nonces are not. Under valgrind's memcheck every branch and
+ * every address that depends on one of them is an error.
  *
  * usage: secrets [VERDICT]
  *
@@ -11,7 +11,8 @@
  * not given. Comparing the tag itself may never branch, and takes more than one branch if it does.
  *
  * The store's answer tells which sale does not open, so one branch is allowed for each sale that a
- * call opens. That it is on nothing but this, the check of the traces shows.
+ * call opens. Convert's tells under which start the parcel opens, so one is allowed for each start that
+ * it tries. That these are on nothing but this, the check of the traces shows.
  */
 #include <stdio.h>
 #include <stdlib.h>
@@ -40,6 +41,11 @@ static struct record {
 } records[CELLS];
 static char tried[80];
 static unsigned long passed, failed;
+
+static uint64_t refusal(uint32_t number, uint32_t place)
+{
+    return (uint64_t)number << 32 | place;
+}
 
 /* Counts the call that is tried. */
 static void count(uint64_t answer, uint64_t expected, unsigned errors, unsigned allowed)
@@ -107,26 +113,43 @@ static void seal_old(uint32_t mode, uint32_t rounds, size_t header_len, size_t l
         abort();
 }
 
-/* Under the old start or not, with the bits of changed in the parcel's byte at the place. */
-static void open(int old, uint32_t mode, uint32_t rounds, size_t header_len, size_t len,
-                 size_t place, uint8_t changed, unsigned allowed)
+/* A call that takes a parcel, its answer where that is whole, and the branches allowed. */
+struct trial {
+    const char *name;
+    uint64_t (*call)(uint32_t, uint32_t, const uint8_t *, size_t, const uint8_t *, size_t,
+                     const uint8_t *, size_t, const uint8_t *, size_t, uint8_t *, size_t);
+    uint64_t answer;
+    unsigned whole, damaged;
+};
+
+/* With the bits of changed in the parcel's byte at the place. */
+static void take(struct trial trial, uint32_t mode, uint32_t rounds, size_t header_len, size_t len,
+                 size_t place, uint8_t changed)
 {
     parcel[place] ^= changed;
     hide_key_and_nonce();
     hide(parcel, len + TAG);
     unsigned before = VALGRIND_COUNT_ERRORS;
-    uint64_t answer = (old ? calmbaize_open_old : calmbaize_open)(
-        mode, rounds, key, sizeof key, nonce, sizeof nonce, header, header_len, parcel, len + TAG,
-        output, sizeof output);
+    uint64_t answer = trial.call(mode, rounds, key, sizeof key, nonce, sizeof nonce, header,
+                                 header_len, parcel, len + TAG, output, sizeof output);
     unsigned errors = VALGRIND_COUNT_ERRORS - before;
     define(&answer, sizeof answer);
     define_key_and_nonce();
     define(parcel, sizeof parcel);
     define(output, sizeof output);
     parcel[place] ^= changed;
-    snprintf(tried, sizeof tried, "%s, mode %u, %u rounds, %zu bytes, %#x into byte %zu",
-             old ? "open_old" : "open", mode, rounds, len, changed, place);
-    count(answer, changed ? (uint64_t)CALMBAIZE_REFUSED_TAG << 32 : len, errors, allowed);
+    snprintf(tried, sizeof tried, "%s, mode %u, %u rounds, %zu bytes, %#x into byte %zu", trial.name,
+             mode, rounds, len, changed, place);
+    count(answer, changed ? refusal(CALMBAIZE_REFUSED_TAG, 0) : trial.answer, errors,
+          changed ? trial.damaged : trial.whole);
+}
+
+/* Whole, and with the first and the last byte of the tag changed. */
+static void take_all(struct trial trial, uint32_t mode, uint32_t rounds, size_t header_len, size_t len)
+{
+    take(trial, mode, rounds, header_len, len, len, 0);
+    take(trial, mode, rounds, header_len, len, len, 1);
+    take(trial, mode, rounds, header_len, len, len + TAG - 1, 0x80);
 }
 
 static void walk(size_t from, size_t len)
@@ -157,18 +180,22 @@ static void jump(int32_t alpha, int32_t beta, int32_t gamma)
     count(answer, sizeof start, errors, 0);
 }
 
-/* Every length, whole, and with the first and the last byte of the tag changed. */
+/* Parcels of both starts in every length. Convert tries the new start where the old one fails. */
 static void all_lengths(uint32_t mode, uint32_t rounds, unsigned allowed)
 {
     static const size_t lengths[] = {0, 1, 13, 127, 128, 129, 300, 1024, MAX};
+    const uint64_t done = refusal(CALMBAIZE_REFUSED_DONE_ALREADY, 0);
 
     for (size_t i = 0; i < COUNT(lengths); i++) {
         size_t len = lengths[i], header_len = i % 2 ? sizeof header : 0;
+        const struct trial trials[2][2] = {{{"open", calmbaize_open, len, allowed, allowed},
+                                            {"convert", calmbaize_convert, done, 2, 2}},
+                                           {{"open_old", calmbaize_open_old, len, allowed, allowed},
+                                            {"convert", calmbaize_convert, len + TAG, 1, 2}}};
         for (int old = 0; old < 2; old++) {
             (old ? seal_old : seal)(mode, rounds, header_len, len);
-            open(old, mode, rounds, header_len, len, len, 0, allowed);
-            open(old, mode, rounds, header_len, len, len, 1, allowed);
-            open(old, mode, rounds, header_len, len, len + TAG - 1, 0x80, allowed);
+            for (size_t t = 0; t < COUNT(trials[old]); t++)
+                take_all(trials[old][t], mode, rounds, header_len, len);
         }
     }
 }
@@ -292,11 +319,6 @@ static void store_read(uint32_t sale, uint64_t expected)
     define_sales();
     snprintf(tried, sizeof tried, "store_read, sale %u", sale);
     count(answer, expected, errors, 0);
-}
-
-static uint64_t refusal(uint32_t number, uint32_t place)
-{
-    return (uint64_t)number << 32 | place;
 }
 
 /* Fills a store with sales of every means there is a rule for, and of others. Returns their coins. */

@@ -63,23 +63,40 @@ static uint64_t open_old_parcel(void)
                               parcel, len + TAG, output, sizeof output);
 }
 
-/* The parcel, whole and with its tag damaged. */
-static void open_both(uint64_t (*opening)(void))
+static uint64_t convert_parcel(void)
 {
-    expect(opening(), len);
+    return calmbaize_convert(mode, rounds, key, sizeof key, nonce, sizeof nonce, header, header_len,
+                             parcel, len + TAG, output, sizeof output);
+}
+
+/* The parcel, whole and with its tag damaged. */
+static void take_both(uint64_t (*call)(void), uint64_t expected)
+{
+    expect(call(), expected);
     parcel[len] ^= 1;
-    expect(opening(), (uint64_t)CALMBAIZE_REFUSED_TAG << 32);
+    expect(call(), (uint64_t)CALMBAIZE_REFUSED_TAG << 32);
     parcel[len] ^= 1;
 }
 
 static void open(void)
 {
-    open_both(open_parcel);
+    take_both(open_parcel, len);
 }
 
 static void open_old(void)
 {
-    open_both(open_old_parcel);
+    take_both(open_old_parcel, len);
+}
+
+static void convert(void)
+{
+    take_both(convert_parcel, len + TAG);
+}
+
+/* Of a parcel that needs no converting. */
+static void convert_again(void)
+{
+    take_both(convert_parcel, (uint64_t)CALMBAIZE_REFUSED_DONE_ALREADY << 32);
 }
 
 static void walk(void)
@@ -190,6 +207,14 @@ static size_t deepest_sealing(void (*first)(void), void (*call)(void))
     return deepest;
 }
 
+/* The deepest over parcels of both starts. */
+static size_t deepest_converting(void)
+{
+    size_t old = deepest_sealing(seal_old, convert), new = deepest_sealing(seal, convert_again);
+
+    return old > new ? old : new;
+}
+
 /* The deepest over stores of several lengths; what stands before it in the list prepares the store. */
 static size_t deepest_of_stores(void (*call)(void))
 {
@@ -263,6 +288,7 @@ int main(void)
     check("seal", deepest_sealing(seal, seal), floor, CALMBAIZE_SEAL_STACK_BYTES);
     check("open", deepest_sealing(seal, open), floor, CALMBAIZE_OPEN_STACK_BYTES);
     check("open_old", deepest_sealing(seal_old, open_old), floor, CALMBAIZE_OPEN_OLD_STACK_BYTES);
+    check("convert", deepest_converting(), floor, CALMBAIZE_CONVERT_STACK_BYTES);
     check("walk", depth(walk), floor, CALMBAIZE_WALK_STACK_BYTES);
     check("jump", depth(jump), floor, CALMBAIZE_JUMP_STACK_BYTES);
     check_stores(floor);

@@ -74,7 +74,7 @@ unfolding checked
 allowed out r e q = sym (ap (λ (x : Check). checked x out r) (sym e ∙ q))
 
 -- whether an answer is no refusal
-abbrev isDone : Answer → Bool
+abbrev pub isDone : Answer → Bool
 isDone (Done value) = true
 isDone (Refused ground place) = false
 

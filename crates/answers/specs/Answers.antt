@@ -4,7 +4,7 @@ use mathlib.Core.List.{List}
 use Prim.Native.Nat.{ℕ, _+_, _*_, _^_}
 use lib.Dec.{ltb}
 use Rattle.answers.specs.declared.Ground.{Ground}
-use Rattle.answers.specs.declared.Ground.the-variants.{Mode, Rounds, KeyLength, NonceLength, HeaderLength, InputLength, OutputLength, TagMissing, TagDiffers, StartLength, NetCount, StepByte, ListLength, StoreForm, StoreFull, SaleNumbers}
+use Rattle.answers.specs.declared.Ground.the-variants.{Mode, Rounds, KeyLength, NonceLength, HeaderLength, InputLength, OutputLength, TagMissing, TagDiffers, StartLength, NetCount, StepByte, ListLength, StoreForm, StoreFull, SaleNumbers, DoneAlready}
 use Rattle.answers.specs.declared.Check.{Check}
 use Rattle.answers.specs.declared.Check.the-variants.{Clear, Fails}
 use Rattle.answers.specs.declared.Answer.{Answer}
@@ -30,6 +30,7 @@ groundNumber ListLength = 13
 groundNumber StoreForm = 14
 groundNumber StoreFull = 15
 groundNumber SaleNumbers = 16
+groundNumber DoneAlready = 17
 
 -- a refusal returns its number; 0 is success
 abbrev pub numberOf : Answer → ℕ

@@ -38,6 +38,8 @@ pub enum Ground {
     StoreFull,
     // Machine and sale number are present where they must not be, or absent.
     SaleNumbers,
+    // The parcel opens under the new start and not under the old one.
+    DoneAlready,
 }
 
 // What a call's checks find: nothing, or the first ground that holds and its place.
@@ -73,6 +75,7 @@ fn ground_number(g: Ground) -> u32
         Ground::StoreForm => 14,
         Ground::StoreFull => 15,
         Ground::SaleNumbers => 16,
+        Ground::DoneAlready => 17,
     }
 }
 

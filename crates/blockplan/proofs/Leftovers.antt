@@ -1,14 +1,15 @@
 -- Laws of whole blocks and the leftover of any bytes. Assumes nothing.
-use mathlib.Core.Path.{_≡_}
+use mathlib.Core.Path.{_≡_, refl, _∙_}
 use mathlib.Core.Bool.{true, false}
 use mathlib.Core.List.{List, [], _∷_, _++_}
-use Prim.Native.Nat.{ℕ, _+_, _-_, _*_, _≤_, _<_}
+use Prim.Native.Nat.{ℕ, zero, suc, _+_, _-_, _*_, _≤_, _<_}
 use native.Mathlib.Omega.{arith}
-use lib.ListN.{length, drop, length-drop, drop-of-length-le}
+use lib.ListN.{length, getD, drop, length-drop, drop-of-length-le}
+use lib.Seq.{getD-drop}
 use borrow.Author.Tests.{lt-ltb, le-ltb}
 use Rattle.words.specs.Sequence.{tab, zeros}
 use Rattle.words.specs.Block.{Block, Bytes, blockOf}
-use Rattle.words.proofs.Lists.{zeros-more}
+use Rattle.words.proofs.Lists.{getD-zeros, zeros-more}
 use Rattle.words.proofs.Blocks.{bytes-drop, block-blockOf, blockOf-ext}
 use Rattle.blockplan.specs.Plan.{whole, left, hasLeft, blockAt}
 
@@ -19,6 +20,10 @@ whole-le s = omega arith
 pub length-left : (s : List ℕ) → length (left s) ≡ length s - 128 * whole s
 unfolding left
 length-left s = length-drop (128 * whole s) s
+
+pub left-lt : (s : List ℕ) → length (left s) < 128
+unfolding whole
+left-lt s = omega (arith, length-left s)
 
 pub bytes-left : (s : List ℕ) → Bytes s → Bytes (left s)
 unfolding left
@@ -50,3 +55,13 @@ module _ (s : List ℕ) where
 pub padded-zero : (s : List ℕ) → blockOf (s ++ (0 ∷ [])) ≡ blockOf s
 unfolding zeros tab
 padded-zero s = blockOf-ext (s ++ zeros 1) s (zeros-more s 1)
+
+-- zeros behind read the same
+zeros-behind : (s u : List ℕ) → ((i : ℕ) → getD u i 0 ≡ 0) → (i : ℕ) → getD (s ++ u) i 0 ≡ getD s i 0
+zeros-behind [] u h i = h i
+zeros-behind (x ∷ xs) u h zero = refl
+zeros-behind (x ∷ xs) u h (suc i) = zeros-behind xs u h i
+
+-- so do the zeros that are left of k, where the front was written over
+pub padded-rest : (s : List ℕ) (n k : ℕ) → blockOf (s ++ drop n (zeros k)) ≡ blockOf s
+padded-rest s n k = blockOf-ext (s ++ drop n (zeros k)) s (zeros-behind s (drop n (zeros k)) (λ i. getD-drop n (zeros k) i 0 ∙ getD-zeros k (n + i)))

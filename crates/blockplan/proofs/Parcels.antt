@@ -45,12 +45,12 @@ module _ (m : Mode) (law : Lawful m) (header : List ℕ) where
         drop-at (m .cipher tag message) tag (length (parcelOf m header message) - 32) (omega (arith, parcel-long, law .cipher-long tag message))
 
     -- the ciphertext is in front, and the tag was written behind it
-    pub sealed-as : (tag old xs ys : List ℕ) → tag ≡ m .tag header message → xs ≡ m .cipher tag message ++ drop (length message) old
-        → ys ≡ tag ++ drop 32 (take (length xs - length message) (drop (length message) xs))
-        → putMid (length message) (length xs - length message) xs ys ≡ parcelOf m header message ++ drop (length message + 32) old
+    pub sealed-as : (n : ℕ) → length message ≡ n → (tag old xs ys : List ℕ) → tag ≡ m .tag header message → xs ≡ m .cipher tag message ++ drop n old
+        → ys ≡ tag ++ drop 32 (take (length xs - n) (drop n xs))
+        → putMid n (length xs - n) xs ys ≡ parcelOf m header message ++ drop (n + 32) old
     unfolding parcelOf
-    sealed-as tag old xs ys t e q =
-        fronted (length message) 32 (m .cipher tag message) tag old xs ys (law .cipher-long tag message) e q
+    sealed-as n l tag old xs ys t e q =
+        fronted n 32 (m .cipher tag message) tag old xs ys (law .cipher-long tag message ∙ l) e q
         ∙ rw (t, append-assoc)
 
     -- its message comes back

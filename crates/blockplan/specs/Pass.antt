@@ -26,6 +26,10 @@ plainAt opening f s i = cond opening (madeAt f s i) (blockAt s i)
 unfoldable pub under : Bool → ℕ → (ℕ → List ℕ) → ℕ → List ℕ → List ℕ
 under opening rounds mask i block = cond opening (decipher rounds (mask i) block) (encipher rounds (mask i) block)
 
+-- block i deciphered under mask number i of one start, and enciphered under that of another
+unfoldable pub across : ℕ → (ℕ → List ℕ) → (ℕ → List ℕ) → ℕ → List ℕ → List ℕ
+across rounds from to i block = encipher rounds (to i) (decipher rounds (from i) block)
+
 -- the masks of document 01's plan for j and k: number i is (i, j, k)
 unfoldable pub planned : List ℕ → ℕ → ℕ → ℕ → List ℕ
 planned start j k i = maskAt start i j k

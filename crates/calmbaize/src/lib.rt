@@ -5,6 +5,7 @@ use sales::Sale;
 ghost use mathlib.Core.Path.{_≡_};
 ghost use Rattle.answers.specs.Answers.{codeOf, coded};
 ghost use Rattle.sealing.specs.Sealing.{sealCall, openCall, openOldCall};
+ghost use Rattle.converting.specs.Converting.{convertCall};
 ghost use Rattle.walking.specs.Walking.{walkCall, jumpCall};
 ghost use Rattle.store.specs.Store.{formatCall, takeCall, cancelCall, totalCall, readCall};
 ghost use Rattle.calmbaize.specs.ForC.{saleOf, totalled};
@@ -55,6 +56,23 @@ pub extern "C" fn calmbaize_open_old(
     ensures { λ r. ⌜ (r, now (output .exit)) ≡ coded (openOldCall mode rounds (now (key .entry)) (now (nonce .entry)) (now (header .entry)) (now (input .entry)) (now (output .entry))) ⌝ }
 {
     answers::code(sealing::open_old(mode, rounds, key, nonce, header, input, output))
+}
+
+// Brings a parcel of the old start over to the new one; the output receives a parcel of the same
+// length, and nothing where it is refused.
+#[no_mangle]
+pub extern "C" fn calmbaize_convert(
+    mode: u32,
+    rounds: u32,
+    key: &[u8],
+    nonce: &[u8],
+    header: &[u8],
+    input: &[u8],
+    output: &mut [u8],
+) -> u64
+    ensures { λ r. ⌜ (r, now (output .exit)) ≡ coded (convertCall mode rounds (now (key .entry)) (now (nonce .entry)) (now (header .entry)) (now (input .entry)) (now (output .entry))) ⌝ }
+{
+    answers::code(converting::convert(mode, rounds, key, nonce, header, input, output))
 }
 
 // The block reached from the start by taking each step of the list in turn.

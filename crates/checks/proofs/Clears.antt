@@ -1,4 +1,4 @@
--- Laws of the checks of seal and open: the checks behind, what holds where all are clear, and that their places are 0. Assumes nothing.
+-- Laws of the checks of seal, open and convert: the checks behind, what holds where all are clear, and that their places are 0. Assumes nothing.
 use mathlib.Core.Path.{_≡_, sym, _∙_}
 use mathlib.Core.Bool.{true, not}
 use Prim.Native.Nat.{ℕ, _+_, _-_, _≤_, _<_}
@@ -10,7 +10,7 @@ use Rattle.answers.specs.declared.Check.{Check}
 use Rattle.answers.specs.declared.Check.the-variants.{Clear}
 use Rattle.answers.specs.declared.Ground.the-variants.{Mode, Rounds, KeyLength, NonceLength, HeaderLength, InputLength, OutputLength, TagMissing}
 use Rattle.answers.proofs.Values.{placeOf, lineAt-lt, after, line-after, line-clear, after-clear, passed-on, room-clear}
-use Rattle.checks.specs.Checks.{isMode, isRounds, settings, sealInputs, openInputs, sealChecks, openChecks}
+use Rattle.checks.specs.Checks.{isMode, isRounds, settings, sealInputs, openInputs, sealChecks, openChecks, convertChecks}
 
 module _ (mode rounds key nonce header : ℕ) where
   -- the checks behind decide where those of the settings are clear
@@ -77,6 +77,15 @@ module _ (mode rounds key nonce header : ℕ) where
         let i = open-inputs (a .0) in
         (settings-lengths (i .0), (i .1, room-clear (parcel - 32) out Clear (a .1) .0))
 
+    -- what the work of convert may count on
+    pub convert-clear : (out : ℕ) → convertChecks mode rounds key nonce header parcel out ≡ Clear
+        → ((key ≡ 32) × (nonce ≡ 16)) × (((32 ≤ parcel) × (parcel ≤ 65568)) × (parcel ≤ out))
+    unfolding convertChecks
+    convert-clear out e =
+        let a = after-clear _ _ (sym (open-after (room parcel out Clear)) ∙ e) in
+        let i = open-inputs (a .0) in
+        (settings-lengths (i .0), (i .1, room-clear parcel out Clear (a .1) .0))
+
   -- ---- their places are 0
 
   settings-place : (n : ℕ) (next : Check) → 0 < n → placeOf next < n → placeOf (settings mode rounds key nonce header next) < n
@@ -94,12 +103,20 @@ module _ (mode rounds key nonce header : ℕ) where
       settings-place n _ z
       (lineAt-lt n (ltb 65536 message) InputLength 0 _ (λ t. z) (λ a. lineAt-lt n (ltb out (message + 32)) OutputLength 0 Clear (λ t. z) (λ b. z)))
 
-  pub open-place : (parcel out n : ℕ) → 0 < n → placeOf (openChecks mode rounds key nonce header parcel out) < n
-  unfolding openChecks openInputs room line
-  open-place parcel out n z =
+  parcel-place : (parcel needed out n : ℕ) → 0 < n → placeOf (openInputs mode rounds key nonce header parcel (room needed out Clear)) < n
+  unfolding openInputs room line
+  parcel-place parcel needed out n z =
       settings-place n _ z
       (lineAt-lt n (ltb parcel 32) TagMissing 0 _ (λ t. z)
-      (λ a. lineAt-lt n (ltb 65568 parcel) InputLength 0 _ (λ t. z) (λ b. lineAt-lt n (ltb out (parcel - 32)) OutputLength 0 Clear (λ t. z) (λ c. z))))
+      (λ a. lineAt-lt n (ltb 65568 parcel) InputLength 0 _ (λ t. z) (λ b. lineAt-lt n (ltb out needed) OutputLength 0 Clear (λ t. z) (λ c. z))))
+
+  pub open-place : (parcel out n : ℕ) → 0 < n → placeOf (openChecks mode rounds key nonce header parcel out) < n
+  unfolding openChecks
+  open-place parcel out n z = parcel-place parcel (parcel - 32) out n z
+
+  pub convert-place : (parcel out n : ℕ) → 0 < n → placeOf (convertChecks mode rounds key nonce header parcel out) < n
+  unfolding convertChecks
+  convert-place parcel out n z = parcel-place parcel parcel out n z
 
   -- ---- a message and a parcel 32 bytes longer pass the same checks
 

@@ -1,4 +1,4 @@
--- The checks of seal and open, over settings and lengths alone (document 01, "Entry points and where each call is checked"). Assumes nothing.
+-- The checks of seal, open and convert, over settings and lengths alone (document 01, "Entry points and where each call is checked"). Assumes nothing.
 use mathlib.Core.Bool.{Bool, false, not, _||_}
 use mathlib.Core.List.{List, [], _∷_}
 use Prim.Native.Nat.{ℕ, _+_, _-_}
@@ -46,3 +46,7 @@ sealChecks mode rounds key nonce header message out = sealInputs mode rounds key
 -- open, all but the tag's, which comes last: the last of these is room for the message
 unfoldable pub openChecks : ℕ → ℕ → ℕ → ℕ → ℕ → ℕ → ℕ → Check
 openChecks mode rounds key nonce header parcel out = openInputs mode rounds key nonce header parcel (room (parcel - 32) out Clear)
+
+-- convert, all but the judgement of the parcel, which comes last: checked as open, and the last of these is room for a parcel of the same length (document 02, card 5)
+unfoldable pub convertChecks : ℕ → ℕ → ℕ → ℕ → ℕ → ℕ → ℕ → Check
+convertChecks mode rounds key nonce header parcel out = openInputs mode rounds key nonce header parcel (room parcel out Clear)

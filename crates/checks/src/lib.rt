@@ -1,10 +1,10 @@
-// The checks of seal and open, over settings and lengths alone.
+// The checks of seal, open and convert, over settings and lengths alone.
 use answers::Check;
 use answers::Ground;
 use answers::room;
 ghost use mathlib.Core.Path.{_≡_};
 ghost use Rattle.answers.specs.declared.Check.the-variants.{Clear};
-ghost use Rattle.checks.specs.Checks.{isMode, isRounds, settings, sealInputs, openInputs, sealChecks, openChecks};
+ghost use Rattle.checks.specs.Checks.{isMode, isRounds, settings, sealInputs, openInputs, sealChecks, openChecks, convertChecks};
 
 // The longest message, and the length of a tag.
 const MOST_MESSAGE: usize = 65536;
@@ -36,7 +36,7 @@ pub struct Lengths {
     pub input: usize,
 }
 
-// What both calls check first.
+// What all check first.
 fn check_settings(mode: u32, rounds: u32, of: Lengths) -> Check
     ensures { λ r. ⌜ r ≡ settings mode rounds (of .key) (of .nonce) (of .header) Clear ⌝ }
 {
@@ -109,4 +109,15 @@ pub fn check_open(mode: u32, rounds: u32, of: Lengths, out: usize) -> Check
         return Check::Fails(ground, place);
     }
     room(of.input - TAG, out)
+}
+
+// Convert's checks but for the judgement of the parcel.
+pub fn check_convert(mode: u32, rounds: u32, of: Lengths, out: usize) -> Check
+    ensures { λ r. ⌜ r ≡ convertChecks mode rounds (of .key) (of .nonce) (of .header) (of .input) out ⌝ }
+{
+    let found = check_parcel(mode, rounds, of);
+    if let Check::Fails(ground, place) = found {
+        return Check::Fails(ground, place);
+    }
+    room(of.input, out)
 }

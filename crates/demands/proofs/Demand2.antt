@@ -26,40 +26,40 @@ use Rattle.modes.proofs.Lawful.{mode-lawful}
 use Rattle.sealing.specs.Sealing.{verdict, sealFrom, openFrom, sealCall, openCall, openOldCall}
 use Rattle.demands.specs.Demand2.{Sealable, Openable, Seals, Opens, Refuses, HandsBack, Exactly, Demand2}
 
-length-zeros : (n : ℕ) → length (zeros n) ≡ n
+pub length-zeros : (n : ℕ) → length (zeros n) ≡ n
 unfolding zeros
 length-zeros n = length-tab (λ i. 0) n
 
 -- room where there is room
-roomy : (needed lent : ℕ) → needed ≤ lent → room needed lent Clear ≡ Clear
+pub roomy : (needed lent : ℕ) → needed ≤ lent → room needed lent Clear ≡ Clear
 unfolding room line lineAt
 roomy needed lent h = rw (le-ltb lent needed h)
 
 -- a start that is a block, for every round count
-abbrev Blocks : (ℕ → List ℕ → List ℕ → List ℕ) → Type 0
+abbrev pub Blocks : (ℕ → List ℕ → List ℕ → List ℕ) → Type 0
 Blocks start = (rounds : ℕ) (key nonce : List ℕ) → Bytes key → Bytes nonce → Block (start rounds key nonce)
 
 module _ (start : ℕ → List ℕ → List ℕ → List ℕ) (is-block : Blocks start) (mode rounds : ℕ) (key nonce header : List ℕ) where
-  m : Mode
+  unfoldable pub m : Mode
   m = modeOf mode rounds (start rounds key nonce)
 
   -- the mode is lawful for every round count: the allowed ones play no part
-  law : Bytes key → Bytes nonce → Lawful m
+  pub law : Bytes key → Bytes nonce → Lawful m
   unfolding m
   law hk hn = mode-lawful mode rounds (start rounds key nonce) (is-block rounds key nonce hk hn)
 
-  seals : (message : List ℕ) → Sealable mode rounds key nonce header message → Seals (sealFrom start) mode rounds key nonce header message (parcelOf m header message)
+  pub seals : (message : List ℕ) → Sealable mode rounds key nonce header message → Seals (sealFrom start) mode rounds key nonce header message (parcelOf m header message)
   unfolding m sealFrom sealChecks checked
   seals message 𝓜 out h = rw (passed-on _ _ (seal-after _ _ _ _ _ _ (room (length message + 32) (length out) Clear)) (𝓜 .clear), roomy (length message + 32) (length out) h)
 
   module _ (parcel : List ℕ) (𝓟 : Openable mode rounds key nonce header parcel) where
-    inputs : (32 ≤ length parcel) × (length parcel ≤ 65568)
+    pub inputs : (32 ≤ length parcel) × (length parcel ≤ 65568)
     inputs = open-inputs _ _ _ _ _ _ (𝓟 .clear) .1
 
-    law-here : Lawful m
+    pub law-here : Lawful m
     law-here = law (𝓟 .key-bytes) (𝓟 .nonce-bytes)
 
-    long : length (messageOf m parcel) ≡ length parcel - 32
+    pub long : length (messageOf m parcel) ≡ length parcel - 32
     long = message-long m law-here header parcel (inputs .0)
 
     answers : (out : List ℕ) → length parcel - 32 ≤ length out
@@ -67,15 +67,15 @@ module _ (start : ℕ → List ℕ → List ℕ → List ℕ) (is-block : Blocks
     unfolding m openFrom openChecks checked
     answers out h = rw (passed-on _ _ (open-after _ _ _ _ _ _ (room (length parcel - 32) (length out) Clear)) (𝓟 .clear), roomy (length parcel - 32) (length out) h)
 
-    opens : genuine m header parcel ≡ true → Opens (openFrom start) mode rounds key nonce header parcel (messageOf m parcel)
+    pub opens : genuine m header parcel ≡ true → Opens (openFrom start) mode rounds key nonce header parcel (messageOf m parcel)
     unfolding verdict opened
     opens e out h = answers out (subst (λ (k : ℕ). k ≤ length out) long h) ∙ rw (e, long)
 
-    refuses : genuine m header parcel ≡ false → Refuses (openFrom start) mode rounds key nonce header parcel
+    pub refuses : genuine m header parcel ≡ false → Refuses (openFrom start) mode rounds key nonce header parcel
     unfolding verdict opened
     refuses e out h = answers out h ∙ rw e
 
-    message-is : Sealable mode rounds key nonce header (messageOf m parcel)
+    pub message-is : Sealable mode rounds key nonce header (messageOf m parcel)
     message-is = record {
       clear = rw long (message-inputs _ _ _ _ _ (length parcel) (𝓟 .clear));
       key-bytes = 𝓟 .key-bytes;
@@ -84,10 +84,10 @@ module _ (start : ℕ → List ℕ → List ℕ → List ℕ) (is-block : Blocks
     }
 
   module _ (message : List ℕ) (𝓜 : Sealable mode rounds key nonce header message) where
-    law-there : Lawful m
+    pub law-there : Lawful m
     law-there = law (𝓜 .key-bytes) (𝓜 .nonce-bytes)
 
-    parcel-is : Openable mode rounds key nonce header (parcelOf m header message)
+    pub parcel-is : Openable mode rounds key nonce header (parcelOf m header message)
     parcel-is = record {
       clear = rw (parcel-long m law-there header message) (parcel-inputs _ _ _ _ _ (length message) (𝓜 .clear));
       key-bytes = 𝓜 .key-bytes;
@@ -95,17 +95,16 @@ module _ (start : ℕ → List ℕ → List ℕ → List ℕ) (is-block : Blocks
       bytes = parcel-bytes m law-there header message (𝓜 .bytes);
     }
 
+    pub parcel-opens : Opens (openFrom start) mode rounds key nonce header (parcelOf m header message) message
+    parcel-opens =
+        subst (Opens (openFrom start) mode rounds key nonce header (parcelOf m header message)) (parcel-message m law-there header message (𝓜 .bytes))
+        (opens (parcelOf m header message) parcel-is (parcel-genuine m law-there header message (𝓜 .bytes)))
+
     hands-back : HandsBack (sealFrom start) (openFrom start) mode rounds key nonce header message
-    hands-back = (
-      parcelOf m header message,
-      parcel-is,
-      seals message 𝓜,
-      subst (Opens (openFrom start) mode rounds key nonce header (parcelOf m header message)) (parcel-message m law-there header message (𝓜 .bytes))
-          (opens (parcelOf m header message) parcel-is (parcel-genuine m law-there header message (𝓜 .bytes))),
-    )
+    hands-back = (parcelOf m header message, parcel-is, seals message 𝓜, parcel-opens)
 
     -- seal writes one parcel for a message
-    one-parcel : (parcel : List ℕ) → Seals (sealFrom start) mode rounds key nonce header message parcel → parcel ≡ parcelOf m header message
+    pub one-parcel : (parcel : List ℕ) → Seals (sealFrom start) mode rounds key nonce header message parcel → parcel ≡ parcelOf m header message
     one-parcel parcel e =
         let n = length message + 32 in
         let room : n ≤ length (zeros n) = omega (arith, length-zeros n) in

@@ -3,7 +3,7 @@ ghost use mathlib.Core.Path.{_≡_};
 ghost use mathlib.Core.List.{_++_};
 ghost use Prim.Native.Nat.{_+_, _≤_};
 ghost use lib.ListN.{length, drop};
-ghost use Rattle.blockplan.specs.Parcel.{parcelOf, opened};
+ghost use Rattle.blockplan.specs.Parcel.{parcelOf, messageOf, genuine, opened};
 ghost use Rattle.modes.specs.Modes.{modeOf};
 
 // The parcel of a message, to the front of the output.
@@ -34,5 +34,37 @@ pub fn open(
         opp::open(start, rounds, header, parcel, out)
     } else {
         mro::open(start, rounds, header, parcel, out)
+    }
+}
+
+// Whether the parcel is genuine, in one pass that writes nothing.
+pub fn judge(start: [u64; 16], mode: u32, rounds: u32, header: &[u8], parcel: &[u8]) -> bool
+    requires { ⌜ 32 ≤ length (now parcel) ⌝ }
+    ensures { λ r. ⌜ r ≡ genuine (modeOf mode rounds start) (now (header .entry)) (now (parcel .entry)) ⌝ }
+{
+    if mode == 1 {
+        opp::judge(start, rounds, header, parcel)
+    } else {
+        mro::judge(start, rounds, header, parcel)
+    }
+}
+
+// The parcel, under another start, of the message that this one holds, to the front of the output.
+pub fn reseal(
+    from: [u64; 16],
+    to: [u64; 16],
+    mode: u32,
+    rounds: u32,
+    header: &[u8],
+    parcel: &[u8],
+    out: &mut [u8],
+)
+    requires { ⌜ (32 ≤ length (now parcel)) × (length (now parcel) ≤ length (now out)) ⌝ }
+    ensures { λ _. ⌜ now (out .exit) ≡ parcelOf (modeOf mode rounds to) (now (header .entry)) (messageOf (modeOf mode rounds from) (now (parcel .entry))) ++ drop (length (now (parcel .entry))) (now (out .entry)) ⌝ }
+{
+    if mode == 1 {
+        opp::reseal(from, to, rounds, header, parcel, out);
+    } else {
+        mro::reseal(from, to, rounds, header, parcel, out);
     }
 }

@@ -1,3 +1,4 @@
 pub mod Absorbed
 pub mod Streams
 pub mod Opened
+pub mod Judged

@@ -1,40 +1,16 @@
 -- MRO is lawful, whatever the start: its tag has 32 bytes, and the same stream twice gives the bytes back. Assumes nothing.
-use mathlib.Core.Path.{_≡_, sym, ap, ap₂, _∙_}
-use mathlib.Core.List.{List, _++_}
+use mathlib.Core.Path.{_≡_, ap, _∙_}
+use mathlib.Core.List.{List}
 use Prim.Native.Nat.{ℕ}
-use Rattle.words.specs.Block.{Block, Bytes, blockOf, bytesOf, xorBytes}
-use Rattle.words.proofs.Lists.{cat-ext}
-use Rattle.words.proofs.Blocks.{length-bytesOf, bytes-bytesOf, bytes-are, bytesOf-xor, block-blockOf}
+use Rattle.words.specs.Block.{Bytes}
 use Rattle.mem.proofs.Laws.{xor-undo}
-use Rattle.blockplan.specs.Plan.{whole, left, blockAt, ciphered}
+use Rattle.blockplan.specs.Plan.{ciphered}
+use Rattle.blockplan.specs.Parcel.{messageOf, cipherPart, tagPart}
 use Rattle.blockplan.specs.Lawful.{Lawful}
 use Rattle.blockplan.proofs.Tags.{length-tagBytes, bytes-tagBytes}
-use Rattle.blockplan.proofs.Ciphered.{length-ciphered, bytes-ciphered, ciphered-undo}
-use Rattle.mro.proofs.Streams.{xored}
-use Rattle.mro.specs.Mro.{mroTag, mroStream, streamed, mroCipher, mroMode}
-
--- only the stream's bytes count, so that its blocks may be taken to be well formed
-formed : (ℕ → List ℕ) → ℕ → List ℕ
-formed k i = blockOf (bytesOf (k i))
-
-formed-block : (k : ℕ → List ℕ) (i : ℕ) → Block (formed k i)
-unfolding formed
-formed-block k i = block-blockOf (bytesOf (k i)) (bytes-bytesOf (k i))
-
-formed-bytes : (k : ℕ → List ℕ) (i : ℕ) → bytesOf (formed k i) ≡ bytesOf (k i)
-unfolding formed
-formed-bytes k i = bytes-are (bytesOf (k i)) (bytes-bytesOf (k i)) (length-bytesOf (k i))
-
-xored-bytes : (k : ℕ → List ℕ) (i : ℕ) (b : List ℕ) → bytesOf (xored k i b) ≡ bytesOf (xored (formed k) i b)
-unfolding xored
-xored-bytes k i b = bytesOf-xor b (k i) ∙ ap (xorBytes (bytesOf b)) (sym (formed-bytes k i)) ∙ sym (bytesOf-xor b (formed k i))
-
-xored-formed : (k : ℕ → List ℕ) (s : List ℕ) → ciphered (xored k) k s ≡ ciphered (xored (formed k)) (formed k) s
-unfolding ciphered
-xored-formed k s =
-    ap₂ (λ (a b : List ℕ). a ++ xorBytes (left s) b)
-    (cat-ext (λ i. bytesOf (xored k i (blockAt s i))) (λ i. bytesOf (xored (formed k) i (blockAt s i))) (whole s) (λ i h. xored-bytes k i (blockAt s i)))
-    (sym (formed-bytes k (whole s)))
+use Rattle.blockplan.proofs.Ciphered.{length-ciphered, whole-ciphered, hasLeft-ciphered, bytes-ciphered, ciphered-undo}
+use Rattle.mro.proofs.Streams.{xored, formed, formed-block, xored-formed}
+use Rattle.mro.specs.Mro.{blocks, mroTag, mroStream, streamed, mroCipher, mroMode}
 
 xored-back : (k : ℕ → List ℕ) (s : List ℕ) → Bytes s → ciphered (xored k) k (ciphered (xored k) k s) ≡ s
 unfolding xored
@@ -56,3 +32,11 @@ mro-lawful rounds start = record {
     forth-back = xored-back (mroStream rounds start tag);
   };
 }
+
+-- a parcel's message has as many blocks as its ciphertext
+pub blocks-message : (rounds : ℕ) (start parcel : List ℕ) → blocks (messageOf (mroMode rounds start) parcel) ≡ blocks (cipherPart parcel)
+unfolding blocks messageOf mroMode mroCipher
+blocks-message rounds start parcel =
+    let f = streamed rounds start (tagPart parcel) in
+    let k = mroStream rounds start (tagPart parcel) in
+    rw (hasLeft-ciphered f k (cipherPart parcel), whole-ciphered f k (cipherPart parcel))

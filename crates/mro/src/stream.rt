@@ -28,7 +28,7 @@ pub fn load_tag(tag: &[u8]) -> [u64; 16]
 }
 
 // The stream's block i: of the tag's block only the first four words count.
-fn stream_block(tag: [u64; 16], i: usize, mask: [u64; 16], rounds: u32) -> [u64; 16]
+pub fn stream_block(tag: [u64; 16], i: usize, mask: [u64; 16], rounds: u32) -> [u64; 16]
     ensures { λ r. ⌜ r ≡ encipherOf rounds mask (counter (tagBytes tag) i) ⌝ }
 {
     let t0 = tag[0];

@@ -6,6 +6,9 @@ use mem::cipher::encipher;
 use words::block::xor;
 ghost use mathlib.Core.Path.{_≡_};
 ghost use mathlib.Core.Bool.{false};
+ghost use mathlib.Core.List.{_++_, _∷_, []};
+ghost use lib.ListN.{length};
+ghost use Rattle.words.specs.Sequence.{zeros};
 ghost use Rattle.words.specs.Block.{xorBlock};
 ghost use Rattle.mem.specs.Mem.{E};
 ghost use Rattle.blockplan.specs.Plan.{xorOver};
@@ -25,17 +28,29 @@ fn absorb_all(s: &[u8], first: [u64; 16], rounds: u32) -> [u64; 16]
     absorb_left(sum, s, 0, mask, rounds)
 }
 
+// The block whose first 32 bytes are the tag, from the sum over the message's blocks and the
+// message's length.
+pub fn tag_from(
+    start: [u64; 16],
+    rounds: u32,
+    header: &[u8],
+    message_sum: [u64; 16],
+    message_len: usize,
+) -> [u64; 16]
+    ensures { λ r. ⌜ r ≡ E rounds start 0 2 0 (xorBlock (xorBlock (xorOver (madeAt (under false rounds (stepping start)) (now (header .entry))) (blocks (now (header .entry)))) «message_sum») (zeros 14 ++ (length (now (header .entry)) ∷ «message_len» ∷ []))) ⌝ }
+{
+    let sum = xor(absorb_all(header, start, rounds), message_sum);
+    let h = header.len() as u64;
+    let m = message_len as u64;
+    let both = [0, 0, 0, 0, 0, 0, 0, 0, 0, 0, 0, 0, 0, 0, h, m];
+    encipher(xor(sum, both), beta(beta(start)), rounds)
+}
+
 // The block whose first 32 bytes are the tag.
 pub fn tag_block(start: [u64; 16], rounds: u32, header: &[u8], message: &[u8]) -> [u64; 16]
     ensures { λ r. ⌜ r ≡ E rounds start 0 2 0 (xorBlock (mroSum rounds start (now (header .entry)) (now (message .entry))) (lengths (now (header .entry)) (now (message .entry)))) ⌝ }
 {
     let once = beta(start);
-    let sum = xor(
-        absorb_all(header, start, rounds),
-        absorb_all(message, once, rounds),
-    );
-    let h = header.len() as u64;
-    let m = message.len() as u64;
-    let both = [0, 0, 0, 0, 0, 0, 0, 0, 0, 0, 0, 0, 0, 0, h, m];
-    encipher(xor(sum, both), beta(once), rounds)
+    let sum = absorb_all(message, once, rounds);
+    tag_from(start, rounds, header, sum, message.len())
 }

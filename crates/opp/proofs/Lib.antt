@@ -1,2 +1,4 @@
 pub mod Passes
 pub mod Opened
+pub mod Judged
+pub mod Resealed

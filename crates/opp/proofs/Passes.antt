@@ -31,7 +31,8 @@ module _ (rounds : ℕ) (start s : List ℕ) (l : Block start) where
   blocks-planned opening p = passed-agree opening rounds (stepping (gamma start)) (planned start 0 1) s (whole s) (λ i h. stepping-planned start l 0 1 i) p
 
   module _ (h : Bytes s) where
-    opened-at : (i : ℕ) → i < whole s → blockAt (written true rounds start s) i ≡ plainAt true (turn true) s i
+    -- block i of the message that a pass opens
+    pub opened-at : (i : ℕ) → i < whole s → blockAt (written true rounds start s) i ≡ plainAt true (turn true) s i
     unfolding written plainAt madeAt
     opened-at i p =
         blockAt-ciphered (turn true) (oppStream rounds start) s i p
@@ -51,6 +52,15 @@ module _ (rounds : ℕ) (start s : List ℕ) (l : Block start) where
         )
     check-is false = refl
 
+    -- the leftover's stream, from the mask behind the whole blocks
+    mask-left : (next : List ℕ) → next ≡ planned start 0 1 (whole s) → beta next ≡ maskAt start (whole s) 1 1
+    unfolding planned
+    mask-left next e = ap beta e ∙ mask-beta start l (whole s) 0 1
+
+    pub stream-is : (next : List ℕ) → next ≡ planned start 0 1 (whole s) → encipher rounds (beta next) zeroBlock ≡ oppStream rounds start (whole s)
+    unfolding oppStream E
+    stream-is next e = ap (λ (m : List ℕ). encipher rounds m zeroBlock) (mask-left next e)
+
     -- ---- after the whole blocks
 
     module _ (opening : Bool) (old new sum next : List ℕ) (p : Passed opening rounds (planned start 0 1) s (whole s) old new sum next) where
@@ -63,14 +73,6 @@ module _ (rounds : ℕ) (start s : List ℕ) (l : Block start) where
         last-mask = p .reached ∙ rw (no-left s e);
       }
 
-      mask-left : beta next ≡ maskAt start (whole s) 1 1
-      unfolding planned
-      mask-left = ap beta (p .reached) ∙ mask-beta start l (whole s) 0 1
-
-      stream-is : encipher rounds (beta next) zeroBlock ≡ oppStream rounds start (whole s)
-      unfolding oppStream E
-      stream-is = ap (λ (m : List ℕ). encipher rounds m zeroBlock) mask-left
-
       -- the leftover as it was written
       abbrev pub made : List ℕ
       made = xorBytes (left s) (bytesOf (encipher rounds (beta next) zeroBlock))
@@ -82,9 +84,9 @@ module _ (rounds : ℕ) (start s : List ℕ) (l : Block start) where
           → AllPassed opening rounds start s old (putMid (128 * whole s) (length new - 128 * whole s) new ys) check mask
       unfolding written xorIf
       all-left ys check mask q w a m = record {
-        all-written = written-left (turn opening) (oppStream rounds start) s old new (p .written) ys (rw stream-is at w);
-        all-checked = a ∙ rw (check-is opening, some-left s q, stream-is, p .summed);
-        last-mask = m ∙ rw (some-left s q) mask-left;
+        all-written = written-left (turn opening) (oppStream rounds start) s old new (p .written) ys (rw (stream-is next (p .reached)) at w);
+        all-checked = a ∙ rw (check-is opening, some-left s q, stream-is next (p .reached), p .summed);
+        last-mask = m ∙ rw (some-left s q) (mask-left next (p .reached));
       }
 
     -- ---- the tag
@@ -105,11 +107,11 @@ module _ (rounds : ℕ) (start s : List ℕ) (l : Block start) where
     two-on false = ap beta (mask-beta start l (whole s) 0 1) ∙ mask-beta start l (whole s) 1 1
 
     -- the tag, from a block made of the sum, the message's last mask and the check
-    pub tag-is : (opening : Bool) (header block : List ℕ) {old new check mask : List ℕ} → AllPassed opening rounds start s old new check mask
-        → block ≡ xorBlock (oppSum rounds start header) (encipher rounds (beta (beta mask)) check)
+    pub tag-is : (opening : Bool) (header block : List ℕ) {check mask : List ℕ} → check ≡ oppCheck (plain opening rounds start s)
+        → mask ≡ maskAt start (whole s) (cond (hasLeft s) 1 0) 1 → block ≡ xorBlock (oppSum rounds start header) (encipher rounds (beta (beta mask)) check)
         → tagBytes block ≡ oppTag rounds start header (plain opening rounds start s)
     unfolding oppTag E
-    tag-is opening header block {old} {new} {check} {mask} p e =
+    tag-is opening header block {check} {mask} k m e =
         let at : beta (beta mask) ≡ maskAt start (whole (plain opening rounds start s)) (cond (hasLeft (plain opening rounds start s)) 3 2) 1 =
-        rw (p .last-mask, whole-plain opening, hasLeft-plain opening) (two-on (hasLeft s)) in
-        ap tagBytes (e ∙ ap₂ (λ (n b : List ℕ). xorBlock (oppSum rounds start header) (encipher rounds n b)) at (p .all-checked))
+        rw (m, whole-plain opening, hasLeft-plain opening) (two-on (hasLeft s)) in
+        ap tagBytes (e ∙ ap₂ (λ (n b : List ℕ). xorBlock (oppSum rounds start header) (encipher rounds n b)) at k)

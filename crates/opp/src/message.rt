@@ -32,7 +32,7 @@ fn padded_plain(opening: bool, made: &[u8], given: &[u8]) -> [u64; 16]
 }
 
 // The leftover, under a mask a beta step on from the one after the whole blocks.
-fn pass_leftover(blocks: Summed, rounds: u32, s: &[u8], opening: bool, out: &mut [u8]) -> Summed
+pub fn pass_leftover(blocks: Summed, rounds: u32, s: &[u8], opening: bool, out: &mut [u8]) -> Summed
     requires { ⌜ (length (now s) < 128) × (length (now s) ≤ length (now out)) ⌝ }
     ensures { λ _. ⌜ now (out .exit) ≡ xorBytes (now (s .entry)) (bytesOf (encipherOf rounds (betaOf (blocks .mask)) zeroBlock)) ++ drop (length (now (s .entry))) (now (out .entry)) ⌝ }
     ensures { λ r. ⌜ (r .sum ≡ xorBlock (blocks .sum) (paddedOf (cond opening (xorBytes (now (s .entry)) (bytesOf (encipherOf rounds (betaOf (blocks .mask)) zeroBlock))) (now (s .entry))))) × (r .mask ≡ betaOf (blocks .mask)) ⌝ }

@@ -8,7 +8,9 @@ ghost use lib.ListN.{length};
 ghost use Rattle.blockplan.specs.Plan.{whole};
 ghost use Rattle.blockplan.specs.Pass.{stepping, Passed};
 
+pub mod judging;
 mod opening;
+pub mod resealing;
 mod sealing;
 
 // The whole blocks, sealed or opened: the sum is the check over them, and the mask is one for the next

@@ -10,6 +10,7 @@ ghost use lib.ListN.{length, drop};
 ghost use Rattle.words.specs.Sequence.{zeros};
 ghost use Rattle.words.specs.Block.{blockOf};
 ghost use Rattle.blockplan.specs.Compare.{differing, verified};
+ghost use Rattle.blockplan.specs.Parcel.{tagPart, same};
 ghost use Rattle.blockplan.specs.Plan.{tagBytes};
 
 // The first 32 bytes of a block, to the front of the output.
@@ -79,4 +80,13 @@ pub fn verify(expected: [u64; 16], parcel: &[u8], out: &mut [u8]) -> bool
     let differ = difference(expected, &parcel[n..]);
     keep(out, n, differ);
     differ == 0
+}
+
+// Whether the parcel's tag is the first 32 bytes of the block expected; nothing is written.
+pub fn agrees(expected: [u64; 16], parcel: &[u8]) -> bool
+    requires { ⌜ 32 ≤ length (now parcel) ⌝ }
+    ensures { λ r. ⌜ r ≡ same (tagBytes expected) (tagPart (now (parcel .entry))) ⌝ }
+{
+    let n = parcel.len() - 32;
+    difference(expected, &parcel[n..]) == 0
 }

@@ -2,8 +2,8 @@
 
 #![no_std]
 
-/// The type of seal and of both opens: mode and rounds, then key, nonce, header, input and output, each
-/// with its length.
+/// The type of seal, both opens and convert: mode and rounds, then key, nonce, header, input and
+/// output, each with its length.
 pub type Sealing = unsafe extern "C" fn(
     u32,
     u32,
@@ -54,6 +54,22 @@ extern "C" {
 
     /// Opens under the old start; the arguments are those of `calmbaize_open_old`.
     pub fn baseline_open_old(
+        mode: u32,
+        rounds: u32,
+        key: *const u8,
+        key_len: usize,
+        nonce: *const u8,
+        nonce_len: usize,
+        header: *const u8,
+        header_len: usize,
+        input: *const u8,
+        input_len: usize,
+        output: *mut u8,
+        output_len: usize,
+    ) -> u64;
+
+    /// Converts; the arguments are those of `calmbaize_convert`.
+    pub fn baseline_convert(
         mode: u32,
         rounds: u32,
         key: *const u8,

@@ -72,8 +72,21 @@ pub enum Operation {
     Open,
     /// Opening a parcel whose tag differs.
     Refuse,
-    /// Opening a parcel of the old start, which libsodium's ciphers don't have.
+    /// Opening a parcel of the old start.
     OpenOld,
+    /// Converting a parcel of the old start.
+    Convert,
+    /// Converting a parcel of the new start, which is refused as done already.
+    ConvertDone,
+    /// Converting a parcel of the old start whose tag differs.
+    ConvertRefuse,
+}
+
+impl Operation {
+    /// Whether libsodium's ciphers have it, which have no old start.
+    fn is_of_sodium(self) -> bool {
+        matches!(self, Self::Seal | Self::Open | Self::Refuse)
+    }
 }
 
 impl fmt::Display for Operation {
@@ -83,16 +96,22 @@ impl fmt::Display for Operation {
             Self::Open => "open",
             Self::Refuse => "open, refused",
             Self::OpenOld => "open, old start",
+            Self::Convert => "convert",
+            Self::ConvertDone => "convert, done already",
+            Self::ConvertRefuse => "convert, refused",
         })
     }
 }
 
 /// Which calls are made.
-pub const OPERATIONS: [Operation; 4] = [
+pub const OPERATIONS: [Operation; 7] = [
     Operation::Seal,
     Operation::Open,
     Operation::Refuse,
     Operation::OpenOld,
+    Operation::Convert,
+    Operation::ConvertDone,
+    Operation::ConvertRefuse,
 ];
 
 /// A case's name.
@@ -114,8 +133,11 @@ impl fmt::Display for Key {
 /// What a call answers where the tag differs. Else it answers the bytes written, or another number
 /// from 2^32 on.
 pub const TAG_DIFFERS: u64 = 9 << 32;
+/// What a conversion answers where the parcel is of the new start.
+const DONE_ALREADY: u64 = 17 << 32;
 
-/// The case of `key`. `run` takes true to seal and false to open, the input and the output.
+/// The case of `key`. `run` takes true to seal and false to open or convert, the input and the
+/// output.
 pub fn case(
     key: Key,
     tag_len: usize,
@@ -123,19 +145,23 @@ pub fn case(
 ) -> Case<Key> {
     let (message, mut parcel) = (vec![0x5a; key.len], vec![0; key.len + tag_len]);
     run(true, &message, &mut parcel);
-    if key.operation == Operation::Refuse {
+    if matches!(key.operation, Operation::Refuse | Operation::ConvertRefuse) {
         parcel[key.len] ^= 1;
     }
-    let sealing = key.operation == Operation::Seal;
     let wanted = match key.operation {
-        Operation::Seal => parcel.len() as u64,
+        Operation::Seal | Operation::Convert => parcel.len() as u64,
         Operation::Open | Operation::OpenOld => message.len() as u64,
-        Operation::Refuse => TAG_DIFFERS,
+        Operation::Refuse | Operation::ConvertRefuse => TAG_DIFFERS,
+        Operation::ConvertDone => DONE_ALREADY,
     };
-    let (input, mut output) = if sealing {
-        (message, parcel)
-    } else {
-        (parcel, message)
+    let sealing = key.operation == Operation::Seal;
+    let (input, mut output) = match key.operation {
+        Operation::Seal => (message, parcel),
+        Operation::Open | Operation::Refuse | Operation::OpenOld => (parcel, message),
+        Operation::Convert | Operation::ConvertDone | Operation::ConvertRefuse => {
+            let converted = vec![0; parcel.len()];
+            (parcel, converted)
+        }
     };
     let name = format!("{key}, {}", key.implementation);
     Case::new(key, name, wanted, move || run(sealing, &input, &mut output))
@@ -151,14 +177,15 @@ pub fn all(sodium: Option<&Sodium>) -> Vec<Case<Key>> {
                     cases.push(seal_open.case(setting, operation, len));
                 }
             }
-            let sodium = sodium.iter().filter(|_| operation != Operation::OpenOld);
+            let sodium = sodium.iter().filter(|_| operation.is_of_sodium());
             cases.extend(sodium.flat_map(|sodium| sodium.cases(operation, len)));
         }
     }
     cases
 }
 
-/// An implementation of this construction under one start.
+/// An implementation of this construction: what seals the parcels, under one start, and what opens
+/// or converts them.
 #[derive(Clone, Copy)]
 enum SealOpen {
     Foreign(Implementation, Sealing, Sealing),
@@ -168,8 +195,12 @@ enum SealOpen {
 impl SealOpen {
     fn all(operation: Operation) -> Vec<Self> {
         match operation {
+            Operation::Seal | Operation::Open | Operation::Refuse => Self::all_new(),
             Operation::OpenOld => Self::all_old(),
-            _ => Self::all_new(),
+            Operation::Convert | Operation::ConvertRefuse => {
+                Self::all_converting(baseline::baseline_seal_old)
+            }
+            Operation::ConvertDone => Self::all_converting(baseline::baseline_seal),
         }
     }
 
@@ -208,6 +239,19 @@ impl SealOpen {
         ]
     }
 
+    /// What converts the parcels that `seal` makes.
+    fn all_converting(seal: Sealing) -> Vec<Self> {
+        vec![
+            #[cfg(feature = "archive")]
+            Self::Foreign(
+                Implementation::Library,
+                seal,
+                calmbaize::ffi::calmbaize_convert,
+            ),
+            Self::Foreign(Implementation::ScalarC, seal, baseline::baseline_convert),
+        ]
+    }
+
     fn case(self, setting: Setting, operation: Operation, len: usize) -> Case<Key> {
         let implementation = match self {
             Self::Foreign(implementation, ..) => implementation,
@@ -228,8 +272,8 @@ impl SealOpen {
     fn run(self, (mode, rounds): (u32, u32), seal: bool, input: &[u8], output: &mut [u8]) -> u64 {
         let nonce = &NONCE[..16];
         match self {
-            Self::Foreign(_, seal_fn, open_fn) => {
-                let call = if seal { seal_fn } else { open_fn };
+            Self::Foreign(_, seal_fn, parcel_fn) => {
+                let call = if seal { seal_fn } else { parcel_fn };
                 // SAFETY: each pointer is valid for its length, and the output overlaps nothing.
                 unsafe {
                     call(

@@ -39,6 +39,12 @@ pub struct Samples<K> {
 }
 
 impl<K: Copy + PartialEq> Samples<K> {
+    /// Samples that nothing was timed for.
+    #[cfg(test)]
+    pub fn made_up(series: Vec<(K, Vec<f64>)>) -> Self {
+        Self { series }
+    }
+
     /// Times `batches` batches of every case. The cases take turns, so that what slows the machine
     /// for a while slows them all.
     ///
@@ -72,10 +78,15 @@ impl<K: Copy + PartialEq> Samples<K> {
         self.of(key).map(|samples| median(samples.to_vec()))
     }
 
-    /// The median, over the batches, of one case's time by another's.
-    pub fn ratio(&self, key: K, by: K) -> Option<f64> {
-        let pairs = self.of(key)?.iter().zip(self.of(by)?);
-        Some(median(pairs.map(|(a, b)| a / b).collect()))
+    /// The median, over the batches, of one case's time by the sum of others'. One that is named
+    /// twice counts twice.
+    pub fn ratio(&self, key: K, by: &[K]) -> Option<f64> {
+        let by: Vec<&[f64]> = by.iter().map(|&key| self.of(key)).collect::<Option<_>>()?;
+        let sum = |batch: usize| by.iter().map(|samples| samples[batch]).sum::<f64>();
+        let times = self.of(key)?.iter().enumerate();
+        Some(median(
+            times.map(|(batch, time)| time / sum(batch)).collect(),
+        ))
     }
 
     /// The median of one case's time by another's, both without that of a third.
@@ -114,4 +125,23 @@ fn time<K>(case: &mut Case<K>, calls: u64) -> Result<u64, String> {
 fn median(mut values: Vec<f64>) -> f64 {
     values.sort_by(f64::total_cmp);
     values[values.len() / 2]
+}
+
+#[cfg(test)]
+mod tests {
+    use super::*;
+
+    #[test]
+    fn a_ratio_is_by_the_sum_of_the_others_in_the_same_batch() {
+        let samples = Samples::made_up(vec![
+            ("whole", vec![30.0, 4.0, 60.0]),
+            ("one", vec![10.0, 1.0, 5.0]),
+            ("other", vec![5.0, 2.0, 15.0]),
+        ]);
+        assert_eq!(samples.ratio("whole", &["one"]), Some(4.0));
+        assert_eq!(samples.ratio("whole", &["one", "other"]), Some(2.0));
+        assert_eq!(samples.ratio("whole", &["one", "one", "other"]), Some(1.2));
+        assert_eq!(samples.ratio("whole", &["one", "none"]), None);
+        assert_eq!(samples.ratio("none", &["one"]), None);
+    }
 }

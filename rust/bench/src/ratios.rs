@@ -1,6 +1,6 @@
 //! The ratios of times that have a bound.
 
-use crate::cases::Operation::{Open, OpenOld, Refuse, Seal};
+use crate::cases::Operation::{Convert, ConvertDone, ConvertRefuse, Open, OpenOld, Refuse, Seal};
 use crate::cases::{settings, Implementation, Key, Operation, Setting, SALE};
 use crate::measure::Samples;
 use crate::stores::{StoreKey, CALLS, CELLS};
@@ -16,6 +16,10 @@ enum By {
     Seal,
     /// Its own opening of as many bytes, of a parcel of the new start.
     Open,
+    /// Its own opening of as many bytes, of a parcel of the old start, twice, and its sealing.
+    OpenOldTwiceAndSeal,
+    /// Its own openings of as many bytes, of a parcel of each start.
+    OpenBoth,
     /// The same call with so many rounds.
     Rounds(u32),
     /// The same call of libsodium's cipher.
@@ -31,7 +35,7 @@ struct Bound {
     most: f64,
 }
 
-const BOUNDS: [Bound; 5] = [
+const BOUNDS: [Bound; 7] = [
     Bound {
         by: By::ScalarC,
         settings,
@@ -52,6 +56,20 @@ const BOUNDS: [Bound; 5] = [
         operations: &[OpenOld],
         len: 65_536,
         most: 1.05,
+    },
+    Bound {
+        by: By::OpenOldTwiceAndSeal,
+        settings,
+        operations: &[Convert],
+        len: 65_536,
+        most: 1.10,
+    },
+    Bound {
+        by: By::OpenBoth,
+        settings,
+        operations: &[ConvertDone, ConvertRefuse],
+        len: 65_536,
+        most: 1.10,
     },
     Bound {
         by: By::Rounds(4),
@@ -80,7 +98,7 @@ impl Bound {
             };
             Ratio {
                 name: format!("{key}, by {}", self.by),
-                measured: samples.ratio(key, self.by.key(key)),
+                measured: samples.ratio(key, &self.by.keys(key)),
                 bound: self.most,
             }
         };
@@ -95,30 +113,32 @@ impl Bound {
 }
 
 impl By {
-    /// What the case of `key` is held against.
-    fn key(self, key: Key) -> Key {
+    /// What the case of `key` is held against: the sum of these.
+    fn keys(self, key: Key) -> Vec<Key> {
+        let own = |operations: &[Operation]| {
+            let operations = operations.iter();
+            operations
+                .map(|&operation| Key { operation, ..key })
+                .collect()
+        };
         match self {
-            Self::ScalarC => Key {
+            Self::ScalarC => vec![Key {
                 implementation: Implementation::ScalarC,
                 ..key
-            },
-            Self::Seal => Key {
-                operation: Seal,
-                ..key
-            },
-            Self::Open => Key {
-                operation: Open,
-                ..key
-            },
-            Self::Rounds(rounds) => Key {
+            }],
+            Self::Seal => own(&[Seal]),
+            Self::Open => own(&[Open]),
+            Self::OpenOldTwiceAndSeal => own(&[OpenOld, OpenOld, Seal]),
+            Self::OpenBoth => own(&[OpenOld, Open]),
+            Self::Rounds(rounds) => vec![Key {
                 setting: key.setting.map(|(mode, _)| (mode, rounds)),
                 ..key
-            },
-            Self::XChaCha => Key {
+            }],
+            Self::XChaCha => vec![Key {
                 implementation: Implementation::XChaCha,
                 setting: None,
                 ..key
-            },
+            }],
         }
     }
 }
@@ -129,6 +149,8 @@ impl fmt::Display for By {
             Self::ScalarC => Implementation::ScalarC.fmt(f),
             Self::Seal => Seal.fmt(f),
             Self::Open => Open.fmt(f),
+            Self::OpenOldTwiceAndSeal => f.write_str("two opens of the old start and a seal"),
+            Self::OpenBoth => f.write_str("an open of each start"),
             Self::Rounds(rounds) => write!(f, "{rounds} rounds"),
             Self::XChaCha => Implementation::XChaCha.fmt(f),
         }
@@ -146,7 +168,7 @@ fn store_ratios(samples: &Samples<StoreKey>) -> Vec<Ratio> {
     let mut add = |key: StoreKey, other: StoreKey, by: String, bound| {
         ratios.push(Ratio {
             name: format!("{key}, by {by}"),
-            measured: samples.ratio(key, other),
+            measured: samples.ratio(key, &[other]),
             bound,
         });
     };
@@ -167,11 +189,12 @@ fn store_ratios(samples: &Samples<StoreKey>) -> Vec<Ratio> {
     ratios
 }
 
-/// A ratio of two cases' times. It is taken batch by batch, and its median counts.
+/// A ratio of a case's time to another's, or to the sum of others'. It is taken batch by batch, and
+/// its median counts.
 pub struct Ratio {
     /// What is held against what.
     pub name: String,
-    /// What it is, where both cases were measured.
+    /// What it is, where all its cases were measured.
     pub measured: Option<f64>,
     /// The most that it may be.
     pub bound: f64,
@@ -215,5 +238,45 @@ mod tests {
         for ratio in [Some(1.101), Some(f64::INFINITY), Some(f64::NAN), None] {
             assert!(fault(ratio, 1.1).is_some(), "{ratio:?}");
         }
+    }
+
+    /// How many bounds of conversions fail where the library's calls take these times.
+    fn faults_of_conversions(times: &[(Operation, f64)]) -> usize {
+        let series = settings().into_iter().flat_map(|setting| {
+            times.iter().map(move |&(operation, time)| {
+                let key = Key {
+                    implementation: Implementation::Library,
+                    setting,
+                    operation,
+                    len: 65_536,
+                };
+                (key, vec![time])
+            })
+        });
+        let samples = Samples::made_up(series.collect());
+        let ratios = BOUNDS.iter().flat_map(|bound| bound.ratios(&samples));
+        let conversions = ratios.filter(|ratio| ratio.name.contains("convert"));
+        conversions.filter_map(|ratio| ratio.fault()).count()
+    }
+
+    #[test]
+    fn conversions_may_take_a_tenth_more_than_their_parts() {
+        let parts = [(Seal, 1000.0), (Open, 100.0), (OpenOld, 10.0)];
+        let each = settings().len();
+        for (convert, done, refuse, faults) in [
+            (1121.0, 120.0, 120.0, 0),
+            (1123.0, 120.0, 120.0, each),
+            (1121.0, 122.0, 120.0, each),
+            (1121.0, 120.0, 122.0, each),
+        ] {
+            let wholes = [
+                (Convert, convert),
+                (ConvertDone, done),
+                (ConvertRefuse, refuse),
+            ];
+            let times = [&parts[..], &wholes].concat();
+            assert_eq!(faults_of_conversions(&times), faults, "{wholes:?}");
+        }
+        assert_eq!(faults_of_conversions(&parts), 3 * each);
     }
 }

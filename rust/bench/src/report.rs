@@ -24,7 +24,9 @@ const STORES: &str =
 
 /// What stands below the ratios.
 const BOUNDS: &str = "The bounds are what this project asks of itself: `make bench` fails where a \
-    ratio is above its bound.\n\n";
+    ratio is above its bound. A conversion may write nothing before the parcel is known to open, so \
+    it is held against the times of two opens of the old start and of a seal, added up; where it is \
+    refused, against those of an open of each start.\n\n";
 
 /// What stands below the growth.
 const FIXED_COST: &str = "1 is linear growth. A call has a fixed cost, the start's and the tag's \
@@ -197,7 +199,7 @@ fn growth(samples: &Samples<Key>) -> Table {
                     len: 65_536,
                 };
                 let (short, empty) = (Key { len: 4096, ..long }, Key { len: 0, ..long });
-                let whole = samples.ratio(long, short);
+                let whole = samples.ratio(long, &[short]);
                 let above = samples.ratio_above(long, short, empty);
                 if let (Some(whole), Some(above)) = (whole, above) {
                     let cells = [whole, above].map(|ratio| format!("{:.3}", ratio / 16.0));

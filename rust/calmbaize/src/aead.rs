@@ -1,4 +1,4 @@
-//! Seal and open under one key.
+//! Seal, open and convert under one key.
 
 use crate::{slices, Key, Mode, Nonce, Refusal, Rounds};
 
@@ -31,7 +31,7 @@ pub struct Aead {
 pub struct Header<'a>(pub &'a [u8]);
 
 impl Aead {
-    /// The value that seals and opens with these settings.
+    /// The value that seals, opens and converts with these settings.
     pub const fn new(mode: Mode, rounds: Rounds, key: Key) -> Self {
         Self { mode, rounds, key }
     }
@@ -151,5 +151,54 @@ impl Aead {
         let (mode, rounds) = (self.mode as u32, self.rounds.count());
         let (key, nonce) = (self.key.bytes(), nonce.bytes());
         slices::open_old(mode, rounds, key, nonce, header.0, parcel, output)
+    }
+
+    /// Seals the message of `parcel`, one of a version before 0.4.0, again as [`seal`](Self::seal)
+    /// does with the same nonce and header, and writes the new parcel to the first `parcel.len()`
+    /// bytes of `output`.
+    ///
+    /// Returns that length. The rest of `output` is unchanged. It succeeds exactly where
+    /// [`open_old`](Self::open_old) opens `parcel`.
+    ///
+    /// # Errors
+    ///
+    /// The first of [`Ground::HeaderTooLong`], [`Ground::InputTooShort`],
+    /// [`Ground::InputTooLong`] and [`Ground::OutputTooShort`] that holds; then, of a parcel that
+    /// [`open_old`](Self::open_old) refuses, [`Ground::DoneAlready`] where [`open`](Self::open)
+    /// opens it and [`Ground::Tag`] where it does not. No byte of `output` changes then: unlike
+    /// with those two, [`Ground::Tag`] clears nothing.
+    ///
+    /// # Examples
+    ///
+    /// ```
+    /// use calmbaize::{Aead, Ground, Header, Key, Mode, Nonce, Rounds};
+    ///
+    /// let aead = Aead::new(Mode::Opp, Rounds::Four, Key::new([0; 32]));
+    /// // What version 0.3.0 sealed: 128 zero bytes.
+    /// let (old, mut new, mut message) = ([0; 160], [0; 160], [0xaa; 128]);
+    /// let (nonce, header) = (Nonce::new([0; 16]), Header::default());
+    /// assert_eq!(aead.convert(&nonce, header, &old, &mut new), Ok(160));
+    /// assert_eq!(aead.open(&nonce, header, &new, &mut message), Ok(128));
+    /// assert_eq!(message, [0; 128]);
+    /// let again = aead.convert(&nonce, header, &new, &mut [0; 160]);
+    /// assert_eq!(again, Err(Ground::DoneAlready.into()));
+    /// ```
+    ///
+    /// [`Ground::HeaderTooLong`]: crate::Ground::HeaderTooLong
+    /// [`Ground::InputTooShort`]: crate::Ground::InputTooShort
+    /// [`Ground::InputTooLong`]: crate::Ground::InputTooLong
+    /// [`Ground::OutputTooShort`]: crate::Ground::OutputTooShort
+    /// [`Ground::DoneAlready`]: crate::Ground::DoneAlready
+    /// [`Ground::Tag`]: crate::Ground::Tag
+    pub fn convert(
+        &self,
+        nonce: &Nonce,
+        header: Header<'_>,
+        parcel: &[u8],
+        output: &mut [u8],
+    ) -> Result<usize, Refusal> {
+        let (mode, rounds) = (self.mode as u32, self.rounds.count());
+        let (key, nonce) = (self.key.bytes(), nonce.bytes());
+        slices::convert(mode, rounds, key, nonce, header.0, parcel, output)
     }
 }

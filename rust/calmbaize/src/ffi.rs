@@ -53,6 +53,22 @@ extern "C" {
         output_len: usize,
     ) -> u64;
 
+    /// See [`slices::convert`](crate::slices::convert).
+    pub fn calmbaize_convert(
+        mode: u32,
+        rounds: u32,
+        key: *const u8,
+        key_len: usize,
+        nonce: *const u8,
+        nonce_len: usize,
+        header: *const u8,
+        header_len: usize,
+        input: *const u8,
+        input_len: usize,
+        output: *mut u8,
+        output_len: usize,
+    ) -> u64;
+
     /// See [`slices::walk`](crate::slices::walk).
     pub fn calmbaize_walk(
         start: *const u8,

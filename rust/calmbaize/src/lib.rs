@@ -5,10 +5,10 @@
 //!
 //! [`Aead`] holds mode, round count and key. [`Aead::seal`] turns a message into a parcel, the
 //! ciphertext and then a tag of 32 bytes; [`Aead::open`] turns a parcel back into its message or
-//! refuses it; [`Aead::open_old`] does the same to a parcel of a version before 0.4.0. A header is
-//! authenticated with the message and not sent. [`walk()`] and [`jump()`] step the masks that the
-//! construction is built on; a mask is as secret as the key. [`Store`] keeps sealed sales in a lent
-//! buffer.
+//! refuses it; [`Aead::open_old`] does the same to a parcel of a version before 0.4.0, and
+//! [`Aead::convert`] turns such a one into a parcel of this version. A header is authenticated with
+//! the message and not sent. [`walk()`] and [`jump()`] step the masks that the construction is built
+//! on; a mask is as secret as the key. [`Store`] keeps sealed sales in a lent buffer.
 //!
 //! | Mode | Repeated nonce | Passes over the message |
 //! |---|---|---|

@@ -111,6 +111,7 @@ grounds! {
     14 StoreForm "store is not 128 to 65,536 bytes in cells of 64, or its chains are broken",
     15 StoreFull "store has no free cell",
     16 SaleNumbers "machine and sale number are there already (take) or not there (cancel, read)",
+    17 DoneAlready "done already: parcel opens under the new start, and not under the old",
 }
 
 impl fmt::Display for Refusal {

@@ -40,7 +40,7 @@ pub fn seal(
     output: &mut [u8],
 ) -> Result<usize, Refusal> {
     let inputs = [key, nonce, header, message];
-    seal_or_open(Call::Seal, mode, rounds, inputs, output)
+    run(Call::Seal, mode, rounds, inputs, output)
 }
 
 /// Verifies and decrypts `parcel` and writes its message to the first `parcel.len() - TAG_LEN`
@@ -75,7 +75,7 @@ pub fn open(
     output: &mut [u8],
 ) -> Result<usize, Refusal> {
     let inputs = [key, nonce, header, parcel];
-    seal_or_open(Call::Open, mode, rounds, inputs, output)
+    run(Call::Open, mode, rounds, inputs, output)
 }
 
 /// Verifies and decrypts `parcel` as [`open`] does, but under the old start, that of versions before
@@ -107,7 +107,45 @@ pub fn open_old(
     output: &mut [u8],
 ) -> Result<usize, Refusal> {
     let inputs = [key, nonce, header, parcel];
-    seal_or_open(Call::OpenOld, mode, rounds, inputs, output)
+    run(Call::OpenOld, mode, rounds, inputs, output)
+}
+
+/// Seals the message of `parcel`, one of the old start, again under the new start with the same
+/// settings, and writes the new parcel to the first `parcel.len()` bytes of `output`.
+///
+/// Returns that length. The rest of `output` is unchanged. It succeeds exactly where [`open_old`]
+/// opens `parcel`, and writes what [`seal`] writes for that message.
+///
+/// # Errors
+///
+/// The first of the grounds 1, 2, 3, 4, 5, 8, 6 and 7 that holds, in this order; then, of a parcel
+/// that [`open_old`] refuses, 17 where [`open`] opens it and 9 where it does not. No byte of `output`
+/// changes then: unlike those two, 9 clears nothing.
+///
+/// # Examples
+///
+/// ```
+/// use calmbaize::{slices, Ground};
+///
+/// // What version 0.3.0 sealed with a key and a nonce of zeros: an empty message.
+/// let (old, mut new, mut again) = ([0; 32], [0; 32], [0xaa; 32]);
+/// assert_eq!(slices::convert(1, 4, &[0; 32], &[0; 16], b"", &old, &mut new), Ok(32));
+/// assert_eq!(slices::open(1, 4, &[0; 32], &[0; 16], b"", &new, &mut []), Ok(0));
+/// let answer = slices::convert(1, 4, &[0; 32], &[0; 16], b"", &new, &mut again);
+/// assert_eq!(answer, Err(Ground::DoneAlready.into()));
+/// assert_eq!(again, [0xaa; 32]);
+/// ```
+pub fn convert(
+    mode: u32,
+    rounds: u32,
+    key: &[u8],
+    nonce: &[u8],
+    header: &[u8],
+    parcel: &[u8],
+    output: &mut [u8],
+) -> Result<usize, Refusal> {
+    let inputs = [key, nonce, header, parcel];
+    run(Call::Convert, mode, rounds, inputs, output)
 }
 
 /// Writes the block reached from `start` by the step bytes `steps` to the first
@@ -191,9 +229,10 @@ enum Call {
     Seal,
     Open,
     OpenOld,
+    Convert,
 }
 
-fn seal_or_open(
+fn run(
     call: Call,
     mode: u32,
     rounds: u32,
@@ -204,6 +243,7 @@ fn seal_or_open(
         Call::Seal => ffi::calmbaize_seal,
         Call::Open => ffi::calmbaize_open,
         Call::OpenOld => ffi::calmbaize_open_old,
+        Call::Convert => ffi::calmbaize_convert,
     };
     // SAFETY: each pointer is valid for its length, and a mutable borrow overlaps no other.
     value(unsafe {

@@ -46,15 +46,17 @@ const OLD: [(Mode, [u8; 36]); 2] = [
     ),
 ];
 
+/// The settings that those were sealed with, but for the mode.
+fn of_old(mode: Mode) -> (Aead, Nonce, Header<'static>) {
+    let key = Key::new(std::array::from_fn(|i| i as u8));
+    let nonce = Nonce::new(std::array::from_fn(|i| i as u8));
+    (Aead::new(mode, Rounds::Six, key), nonce, Header(b"post"))
+}
+
 #[test]
 fn each_start_opens_its_own_parcels_alone() {
-    let (nonce, header) = (
-        Nonce::new(std::array::from_fn(|i| i as u8)),
-        Header(b"post"),
-    );
     for (mode, old) in OLD {
-        let key = Key::new(std::array::from_fn(|i| i as u8));
-        let aead = Aead::new(mode, Rounds::Six, key);
+        let (aead, nonce, header) = of_old(mode);
         let (mut new, mut message) = ([0; 36], [0xaa; 5]);
         assert_eq!(aead.seal(&nonce, header, b"sale", &mut new), Ok(36));
         let opened = aead.open_old(&nonce, header, &old, &mut message);
@@ -71,6 +73,48 @@ fn each_start_opens_its_own_parcels_alone() {
             (refused, &message),
             (Err(Ground::Tag.into()), b"\0\0\0\0\xaa")
         );
+    }
+}
+
+#[test]
+fn an_old_parcel_becomes_the_new_one_of_its_message() {
+    for (mode, old) in OLD {
+        let (aead, nonce, header) = of_old(mode);
+        let (mut new, mut converted) = ([0; 36], [0xaa; 38]);
+        assert_eq!(aead.seal(&nonce, header, b"sale", &mut new), Ok(36));
+        let answer = aead.convert(&nonce, header, &old, &mut converted);
+        assert_eq!(answer, Ok(36));
+        assert_eq!(
+            (&converted[..36], &converted[36..]),
+            (&new[..], &[0xaa; 2][..])
+        );
+        let exact = aead.convert(&nonce, header, &old, &mut converted[..36]);
+        assert_eq!(exact, Ok(36));
+    }
+}
+
+#[test]
+fn a_parcel_that_is_not_converted_changes_nothing() {
+    for (mode, old) in OLD {
+        let (aead, nonce, header) = of_old(mode);
+        let (mut new, mut output) = ([0; 36], [0xaa; 38]);
+        assert_eq!(aead.seal(&nonce, header, b"sale", &mut new), Ok(36));
+        let mut refused = |header, parcel: &[u8], len, ground| {
+            let answer = aead.convert(&nonce, header, parcel, &mut output[..len]);
+            assert_eq!(answer, Err(Ground::into(ground)));
+            assert_eq!(output, [0xaa; 38], "{ground:?}");
+        };
+        refused(header, &new, 38, Ground::DoneAlready);
+        refused(header, &new, 35, Ground::OutputTooShort);
+        refused(header, &old, 35, Ground::OutputTooShort);
+        refused(Header(b"past"), &old, 38, Ground::Tag);
+        refused(Header(b"past"), &new, 38, Ground::Tag);
+        for place in 0..36 {
+            for mut damaged in [old, new] {
+                damaged[place] ^= 1;
+                refused(header, &damaged, 38, Ground::Tag);
+            }
+        }
     }
 }
 

@@ -5,7 +5,7 @@ use calmbaize::{Ground, Refusal, Rounds};
 use std::error::Error;
 
 /// The first number that no ground has.
-const UNKNOWN: u32 = 17;
+const UNKNOWN: u32 = 18;
 
 fn refusal(number: u32, place: u32) -> Refusal {
     decode(u64::from(number) << 32 | u64::from(place)).unwrap_err()
@@ -37,6 +37,7 @@ fn numbers_of_the_documents() {
         Ground::StoreForm,
         Ground::StoreFull,
         Ground::SaleNumbers,
+        Ground::DoneAlready,
     ];
     for (number, ground) in (1..UNKNOWN).zip(grounds) {
         assert_eq!(ground.number(), number);
@@ -65,5 +66,7 @@ fn refusals_are_errors_with_a_text() {
     assert_eq!(text(9), "tag differs in cell 7");
     assert_eq!(refusal(9, 0).to_string(), "tag differs");
     assert_eq!(text(12), "step at 7 is not 1 to 6");
+    let done = "done already: parcel opens under the new start, and not under the old";
+    assert_eq!(text(17), done);
     assert_eq!(text(UNKNOWN), "ground is not known to this version, at 7");
 }

@@ -1,10 +1,11 @@
-//! The four commands, each over the library's call of that name.
+//! The five commands, each over the library's call of that name.
 
+use crate::convert;
 use crate::files::{self, Access};
 use crate::help;
 use crate::options::{needed, Options};
 use crate::Failure;
-use calmbaize::{slices, Aead, Header, Key, Mode, Nonce, Rounds};
+use calmbaize::{slices, Aead, Header, Key, Mode, Nonce, Refusal, Rounds};
 use calmbaize::{BLOCK_LEN, KEY_LEN, MAX_HEADER_LEN, MAX_MESSAGE_LEN, MAX_STEPS};
 use calmbaize::{NONCE_LEN, TAG_LEN};
 
@@ -36,7 +37,7 @@ const SEALING: &[&str] = OPENING.split_at(1).1;
 
 /// A parcel may be seen by anyone. A mask is as secret as the key, since its steps and the
 /// permutation have ways back.
-pub const COMMANDS: [Command; 4] = [
+pub const COMMANDS: [Command; 5] = [
     Command {
         name: "seal",
         help: help::seal,
@@ -48,6 +49,12 @@ pub const COMMANDS: [Command; 4] = [
         help: help::open,
         options: &OPENING,
         run: |options| output(options, open(options)?, Access::Owner),
+    },
+    Command {
+        name: "convert",
+        help: help::convert,
+        options: SEALING,
+        run: convert::run,
     },
     Command {
         name: "walk",
@@ -68,15 +75,20 @@ pub const COMMANDS: [Command; 4] = [
 /// The rounds where none are given.
 pub const DEFAULT_ROUNDS: Rounds = Rounds::Six;
 
-/// The settings of seal and open.
-struct Settings {
-    aead: Aead,
-    nonce: Nonce,
-    header: Vec<u8>,
+/// The longest parcel.
+pub const MAX_PARCEL_LEN: usize = MAX_MESSAGE_LEN + TAG_LEN;
+
+/// What the options say of the settings. The library has checked none of it.
+pub struct Given {
+    mode: Mode,
+    rounds: u32,
+    key: Vec<u8>,
+    pub nonce: Option<Vec<u8>>,
+    pub header: Vec<u8>,
 }
 
-impl Settings {
-    fn new(options: &Options) -> Result<Self, Failure> {
+impl Given {
+    pub fn new(options: &Options) -> Result<Self, Failure> {
         check_standard_input(options)?;
         let mode = match options.text("--mode")? {
             None | Some("mro") => Mode::Mro,
@@ -84,16 +96,41 @@ impl Settings {
             Some(_) => return Err(Failure::Usage("--mode is opp or mro".into())),
         };
         let default = DEFAULT_ROUNDS.count();
-        let count = options.number("--rounds")?.unwrap_or(default);
-        let key = key_bytes(options)?.ok_or_else(key_needed)?;
-        let nonce = bytes(options, "--nonce", "--nonce-file", NONCE_LEN)?;
-        let nonce = nonce.ok_or_else(|| needed("--nonce or --nonce-file"))?;
-        let header = bytes(options, "--header", "--header-file", MAX_HEADER_LEN)?;
-        let (rounds, key) = (Rounds::try_from(count)?, Key::try_from(&key[..])?);
         Ok(Self {
-            aead: Aead::new(mode, rounds, key),
-            nonce: Nonce::try_from(&nonce[..])?,
-            header: header.unwrap_or_default(),
+            mode,
+            rounds: options.number("--rounds")?.unwrap_or(default),
+            key: key_bytes(options)?.ok_or_else(key_needed)?,
+            nonce: bytes(options, "--nonce", "--nonce-file", NONCE_LEN)?,
+            header: bytes(options, "--header", "--header-file", MAX_HEADER_LEN)?
+                .unwrap_or_default(),
+        })
+    }
+
+    pub fn aead(&self) -> Result<Aead, Refusal> {
+        let (rounds, key) = (
+            Rounds::try_from(self.rounds)?,
+            Key::try_from(&self.key[..])?,
+        );
+        Ok(Aead::new(self.mode, rounds, key))
+    }
+}
+
+/// The settings of one message.
+pub struct Settings {
+    pub aead: Aead,
+    pub nonce: Nonce,
+    pub header: Vec<u8>,
+}
+
+impl Settings {
+    pub fn new(options: &Options) -> Result<Self, Failure> {
+        let given = Given::new(options)?;
+        let nonce = given.nonce.as_deref();
+        let nonce = nonce.ok_or_else(|| needed("--nonce or --nonce-file"))?;
+        Ok(Self {
+            aead: given.aead()?,
+            nonce: Nonce::try_from(nonce)?,
+            header: given.header,
         })
     }
 }
@@ -101,26 +138,37 @@ impl Settings {
 fn seal(options: &Options) -> Result<Vec<u8>, Failure> {
     let with = Settings::new(options)?;
     let message = input(options, MAX_MESSAGE_LEN)?;
-    let mut parcel = vec![0; message.len() + TAG_LEN];
     let header = Header(&with.header);
-    let written = with.aead.seal(&with.nonce, header, &message, &mut parcel)?;
-    parcel.truncate(written);
-    Ok(parcel)
+    let parcel = written(message.len() + TAG_LEN, |output| {
+        with.aead.seal(&with.nonce, header, &message, output)
+    });
+    Ok(parcel?)
 }
 
 fn open(options: &Options) -> Result<Vec<u8>, Failure> {
     let with = Settings::new(options)?;
-    let parcel = input(options, MAX_MESSAGE_LEN + TAG_LEN)?;
-    let mut message = vec![0; parcel.len().saturating_sub(TAG_LEN)];
+    let parcel = input(options, MAX_PARCEL_LEN)?;
     let header = Header(&with.header);
     let open = if options.has("--old-start") {
         Aead::open_old
     } else {
         Aead::open
     };
-    let written = open(&with.aead, &with.nonce, header, &parcel, &mut message)?;
-    message.truncate(written);
-    Ok(message)
+    let message = written(parcel.len().saturating_sub(TAG_LEN), |output| {
+        open(&with.aead, &with.nonce, header, &parcel, output)
+    });
+    Ok(message?)
+}
+
+/// What a call writes to an output of that length.
+pub fn written(
+    len: usize,
+    call: impl FnOnce(&mut [u8]) -> Result<usize, Refusal>,
+) -> Result<Vec<u8>, Refusal> {
+    let mut output = vec![0; len];
+    let written = call(&mut output)?;
+    output.truncate(written);
+    Ok(output)
 }
 
 fn walk(options: &Options) -> Result<Vec<u8>, Failure> {
@@ -149,11 +197,11 @@ fn start(options: &Options) -> Result<Vec<u8>, Failure> {
     }
 }
 
-fn input(options: &Options, limit: usize) -> Result<Vec<u8>, Failure> {
+pub fn input(options: &Options, limit: usize) -> Result<Vec<u8>, Failure> {
     files::read(options.value("--input"), limit)
 }
 
-fn output(options: &Options, mut bytes: Vec<u8>, access: Access) -> Result<(), Failure> {
+pub fn output(options: &Options, mut bytes: Vec<u8>, access: Access) -> Result<(), Failure> {
     if options.has("--hex") {
         bytes = (hex(&bytes) + "\n").into_bytes();
     }

@@ -1,7 +1,8 @@
 //! Reading inputs, and writing a file whole or not at all.
 
 use crate::Failure;
-use std::ffi::OsStr;
+use std::collections::BTreeMap;
+use std::ffi::{OsStr, OsString};
 use std::fs::{self, File, OpenOptions, Permissions};
 use std::io::{self, Read, Write};
 use std::os::unix::fs::{OpenOptionsExt, PermissionsExt};
@@ -43,6 +44,21 @@ pub fn read(path: Option<&OsStr>, limit: usize) -> Result<Vec<u8>, Failure> {
             .map_err(|error| failed("read", "standard input", &error))?,
     };
     Ok(bytes)
+}
+
+/// The names in a folder, each with whether it is a regular file, which a link is not.
+pub fn names(folder: &OsStr) -> Result<BTreeMap<OsString, bool>, Failure> {
+    let entries = fs::read_dir(folder).and_then(|entries| {
+        entries
+            .map(|entry| {
+                let entry = entry?;
+                // One that can't be told is taken for a file, so that reading it says why.
+                let is_file = entry.file_type().map_or(true, |kind| kind.is_file());
+                Ok((entry.file_name(), is_file))
+            })
+            .collect()
+    });
+    entries.map_err(|error| failed("read", folder, &error))
 }
 
 /// Bytes from the system's source of random ones.

@@ -6,13 +6,15 @@ use crate::commands::DEFAULT_ROUNDS;
 use calmbaize::Rounds;
 
 pub const GENERAL: &str = "\
-Seals and opens messages, walks the masks behind both, and keeps sealed sales.
+Seals and opens messages, brings over parcels of earlier versions, walks the
+masks behind them, and keeps sealed sales.
 
 usage: calmbaize COMMAND [OPTIONS]
 
 commands:
   seal    encrypt and authenticate a message
   open    verify and decrypt a parcel
+  convert bring over parcels of versions before 0.4.0, one or a folder of them
   walk    take a list of steps from a start block
   jump    take net counts of steps from a start block
   store   keep sealed sales in a file, by commands of its own
@@ -25,7 +27,7 @@ can't be read or written.
 
 Where a command is refused, misused or can't read, nothing is written. Where it
 can't write, a file stays as it was; standard output, a pipe or a device may
-have got a part.
+have got a part. Of a folder this holds for each parcel by itself.
 ";
 
 /// Behind an option that puts a secret on the command line.
@@ -39,6 +41,27 @@ const HEX_AND_HELP: &str = "  -x, --hex                write hexadecimal and a l
 const OWNER: &str = "\
 What is written is secret: a file of it can be read by its owner alone, whatever
 permissions it had before. Standard output, a pipe or a device is left as it is.
+";
+
+const FOLDER: &str = "\
+Where the input is a folder, its parcels are replaced by the new ones, in the
+order of their names; output and hexadecimal are not for a folder. Every regular
+file is a parcel unless its name begins with '.' or ends in .lock, .nonce or
+.header. Links and folders within are passed over.
+
+NAME.nonce and NAME.header are the own nonce and header of the parcel NAME, raw
+bytes. For parcels without them those of the options hold; each needs a nonce.
+
+The counts are printed at the end, such as
+converted 97, done already 2, refused 1
+and then ', failed 1' where a file can't be read or written. A parcel that is
+refused or has failed gets a line on standard error, and the run goes on. The
+exit status is 2 where one has failed, or else 1 where one is refused. Only
+those that are converted are touched.
+
+A file is replaced whole or not at all, and keeps its permissions. Meanwhile
+there is a NAME.lock, which keeps other runs from changing NAME. A run that was
+killed may leave it behind: see that none is running, and remove it.
 ";
 
 pub fn seal() -> String {
@@ -75,6 +98,24 @@ options:
     )
 }
 
+pub fn convert() -> String {
+    let settings = settings();
+    format!(
+        "\
+Seals the message of a parcel of a version before 0.4.0 again, with the same
+settings. The new parcel is as long as the old one. A parcel that is of a later
+version already is refused with 17.
+
+usage: calmbaize convert OPTIONS
+
+options:
+{settings}  -i, --input FILE         parcel, or a folder [standard input]
+  -o, --output FILE        new parcel [standard output]
+{HEX_AND_HELP}
+{FOLDER}"
+    )
+}
+
 pub fn walk() -> String {
     let start = start();
     format!(
@@ -108,7 +149,7 @@ options:
     )
 }
 
-/// What seal and open share.
+/// What seal, open and convert share.
 fn settings() -> String {
     let (allowed, default) = (Rounds::LIST, DEFAULT_ROUNDS.count());
     let key = key();

@@ -1,24 +1,50 @@
 //! The command line tool `calmbaize`.
 
 mod commands;
+mod convert;
 mod files;
 mod help;
 mod options;
+mod progress;
 mod store;
 
 use calmbaize::Refusal;
 use commands::Command;
 use options::Options;
 use std::ffi::{OsStr, OsString};
+use std::fmt;
 use std::process::ExitCode;
 
 /// Why a command did not succeed. A file that can't be written may be a pipe, a device or standard
 /// output that has got a part, after a store was changed; otherwise nothing was written, but for
-/// a list with sales that won't open.
+/// a list with sales that won't open and the parcels of a folder.
 enum Failure {
     Usage(String),
     File(String),
     Refused(Refusal),
+    /// Some parcels of a folder were refused or have failed, each with a line of its own: the
+    /// exit status.
+    Parcels(u8),
+}
+
+impl Failure {
+    fn status(&self) -> u8 {
+        match self {
+            Self::Usage(_) | Self::File(_) => 2,
+            Self::Refused(_) => 1,
+            Self::Parcels(status) => *status,
+        }
+    }
+}
+
+impl fmt::Display for Failure {
+    fn fmt(&self, f: &mut fmt::Formatter<'_>) -> fmt::Result {
+        match self {
+            Self::Usage(message) | Self::File(message) => f.write_str(message),
+            Self::Refused(refusal) => write!(f, "refused with {}: {refusal}", refusal.number()),
+            Self::Parcels(_) => f.write_str("some parcels were refused or have failed"),
+        }
+    }
 }
 
 impl From<Refusal> for Failure {
@@ -42,16 +68,15 @@ fn main() -> ExitCode {
         Some(command) => (execute(command, args), format!("{group} {}", command.name)),
         None => (general(&name, help), group.into()),
     };
-    let (message, status) = match result {
-        Ok(()) => return ExitCode::SUCCESS,
-        Err(Failure::Refused(refusal)) => {
-            (format!("refused with {}: {refusal}", refusal.number()), 1)
-        }
-        Err(Failure::File(message)) => (message, 2),
-        Err(Failure::Usage(message)) => (format!("{message}; see '{hint} --help'"), 2),
+    let Err(failure) = result else {
+        return ExitCode::SUCCESS;
     };
-    eprintln!("calmbaize: {message}");
-    ExitCode::from(status)
+    match failure {
+        Failure::Parcels(_) => {}
+        Failure::Usage(_) => eprintln!("calmbaize: {failure}; see '{hint} --help'"),
+        Failure::File(_) | Failure::Refused(_) => eprintln!("calmbaize: {failure}"),
+    }
+    ExitCode::from(failure.status())
 }
 
 fn general(name: &OsStr, help: &str) -> Result<(), Failure> {

@@ -16,6 +16,8 @@ pub enum Entry {
         mode: u32,
         rounds: u32,
     },
+    /// Buffers: key, nonce, header, parcel.
+    Convert { mode: u32, rounds: u32 },
     /// Buffers: start, steps.
     Walk,
     /// Buffer: start.
@@ -49,6 +51,7 @@ impl Entry {
             Self::Open {
                 start: Start::Old, ..
             } => "open_old",
+            Self::Convert { .. } => "convert",
             Self::Walk => "walk",
             Self::Jump { .. } => "jump",
             Self::Format => "format",
@@ -56,6 +59,16 @@ impl Entry {
             Self::Cancel { .. } => "cancel",
             Self::Total => "total",
             Self::Read { .. } => "read",
+        }
+    }
+
+    /// The mode and the rounds of a call that has them.
+    pub fn settings_mut(&mut self) -> [&mut u32; 2] {
+        match self {
+            Self::Seal { mode, rounds }
+            | Self::Open { mode, rounds, .. }
+            | Self::Convert { mode, rounds } => [mode, rounds],
+            _ => panic!("{self:?} has no mode"),
         }
     }
 }
@@ -79,18 +92,28 @@ impl Call {
         }
     }
 
-    /// This seal call turned into one that opens `parcel` under a start and the same settings.
-    pub fn into_open(mut self, start: Start, parcel: Vec<u8>, output_len: usize) -> Self {
-        let Entry::Seal { mode, rounds } = self.entry else {
-            panic!("{self} does not seal");
+    /// This call turned into one that opens `parcel` under a start and the same settings.
+    pub fn into_open(self, start: Start, parcel: Vec<u8>, output_len: usize) -> Self {
+        let [mode, rounds] = self.settings();
+        let entry = Entry::Open {
+            start,
+            mode,
+            rounds,
         };
+        self.on_parcel(entry, parcel, output_len)
+    }
+
+    /// This call turned into one that converts `parcel` under the same settings.
+    pub fn into_convert(self, parcel: Vec<u8>, output_len: usize) -> Self {
+        let [mode, rounds] = self.settings();
+        self.on_parcel(Entry::Convert { mode, rounds }, parcel, output_len)
+    }
+
+    /// Another entry point with the same key, nonce and header.
+    fn on_parcel(mut self, entry: Entry, parcel: Vec<u8>, output_len: usize) -> Self {
         self.inputs[3] = parcel;
         Self {
-            entry: Entry::Open {
-                start,
-                mode,
-                rounds,
-            },
+            entry,
             inputs: self.inputs,
             output: pattern(output_len),
         }
@@ -189,12 +212,27 @@ impl Call {
         call
     }
 
-    /// What the second implementation seals under a start in a seal call, however short its
-    /// output is; zeros where another ground refuses it.
+    /// The mode and the rounds of a call that has them.
+    fn settings(&self) -> [u32; 2] {
+        let mut entry = self.entry;
+        entry.settings_mut().map(|number| *number)
+    }
+
+    /// The bytes that success writes in a call that has a message or a parcel.
+    pub fn written(&self) -> usize {
+        let len = self.inputs[3].len();
+        match self.entry {
+            Entry::Seal { .. } => len + 32,
+            Entry::Open { .. } => len - 32,
+            Entry::Convert { .. } => len,
+            _ => panic!("{self} has no message"),
+        }
+    }
+
+    /// What the second implementation seals under a start with the buffers of a seal call, however
+    /// short its output is; zeros where another ground refuses it.
     pub fn parcel(&self, start: Start) -> Vec<u8> {
-        let Entry::Seal { mode, rounds } = self.entry else {
-            panic!("{self} does not seal");
-        };
+        let [mode, rounds] = self.settings();
         let mut parcel = vec![0; self.inputs[3].len() + 32];
         let inputs = std::array::from_fn(|i| &*self.inputs[i]);
         seal_under(start, mode, rounds, inputs, &mut parcel).ok();

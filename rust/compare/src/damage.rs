@@ -1,18 +1,20 @@
-//! Parcels damaged in every way, and parcels opened under other settings.
+//! Parcels damaged in every way, and parcels opened or converted under other settings.
 
-use crate::call::{Call, Entry};
-use crate::library::{refusal, Library};
+use crate::call::{pattern, Call, Entry};
+use crate::library::{expected, refusal, Library};
 use crate::prng::Prng;
 use crate::report::{Check, Tally};
 use reference::{settings, Start, MRO, OPP, ROUNDS};
+use std::collections::BTreeSet;
 
-/// Changes an open call, or reports that it can't.
+/// Changes an open or a convert call, or reports that it can't.
 type Damage = fn(&mut Prng, &mut Call) -> bool;
 
-/// The ways to damage an open call.
-const KINDS: [(&str, Damage); 15] = [
+/// The ways to damage such a call.
+const KINDS: [(&str, Damage); 16] = [
     ("a bit of the ciphertext", flip_ciphertext),
     ("a bit of the tag", flip_tag),
+    ("the other start's tag", other_tag),
     ("a block cut out", cut_block),
     ("two blocks exchanged", swap_blocks),
     ("a block doubled", double_block),
@@ -25,8 +27,14 @@ const KINDS: [(&str, Damage); 15] = [
     ("another key", change_key),
     ("the other mode", change_mode),
     ("another round count", change_rounds),
-    ("the other start", change_start),
+    (OTHER_START, change_start),
 ];
+
+/// A conversion has no start that could be another.
+const OTHER_START: &str = "the other start";
+
+/// Which entry points were damaged in which ways.
+type Done = BTreeSet<(&'static str, &'static str)>;
 
 /// Damages a call in one random way.
 pub fn random(prng: &mut Prng, call: &mut Call) {
@@ -34,78 +42,90 @@ pub fn random(prng: &mut Prng, call: &mut Call) {
     damage(prng, call);
 }
 
-/// Every kind of damage over many lengths: always refused with 9, the message cleared.
+/// Every kind of damage over many lengths: always refused with 9. An open has then cleared the
+/// message, a conversion has changed nothing.
 pub fn run(library: &Library, seed: u64) -> Tally {
     let mut prng = Prng::new(seed);
     let mut check = Check::new(library);
-    let mut done = [0; KINDS.len()];
+    let mut done = Done::new();
     for (mode, rounds) in settings() {
         for len in [0, 1, 13, 127, 128, 129, 256, 300, 384, 1000, 4096, 65_536] {
             for header_len in [0, 5, 128, 200] {
                 let seal = Call::seal(&mut prng, mode, rounds, header_len, len);
-                all_kinds(&mut prng, &mut check, seal, &mut done);
+                all_kinds(&mut prng, &mut check, &seal, &mut done);
             }
         }
         every_tag_bit(&mut prng, &mut check, mode, rounds);
     }
-    for ((name, _), done) in KINDS.iter().zip(done) {
-        check.record(done > 0, || format!("{name}: not done once"));
+    for (kind, _) in KINDS {
+        for name in ["open", "open_old", "convert"] {
+            let possible = (name, kind) != ("convert", OTHER_START);
+            check.record(done.contains(&(name, kind)) == possible, || {
+                format!("{name}, {kind}: not done once")
+            });
+        }
     }
     check.tally
 }
 
-/// Each kind of damage that the parcel of `seal` has room for; `done` counts them.
-fn all_kinds(prng: &mut Prng, check: &mut Check, seal: Call, done: &mut [u64; KINDS.len()]) {
-    for good in sealed(check, &seal) {
-        let message = &seal.inputs[3];
-        let opened = check.answers(&good, message.len() as u64);
-        check.record(opened.starts_with(message), || {
-            format!("{good}: the message does not come back")
+/// Each kind of damage that the parcels of `seal` have room for.
+fn all_kinds(prng: &mut Prng, check: &mut Check, seal: &Call, done: &mut Done) {
+    for (good, answer, wanted) in good_calls(check, seal) {
+        let output = check.answers(&good, answer);
+        check.record(output.starts_with(&wanted), || {
+            format!("{good}: the output is another")
         });
-        damaged(prng, check, &good, done);
-    }
-}
-
-/// The same of an open call that succeeds.
-fn damaged(prng: &mut Prng, check: &mut Check, good: &Call, done: &mut [u64; KINDS.len()]) {
-    for ((name, damage), done) in KINDS.iter().zip(done) {
-        let mut call = good.clone();
-        if !damage(prng, &mut call) {
-            continue;
+        for (kind, damage) in KINDS {
+            let mut call = good.clone();
+            if damage(prng, &mut call) {
+                done.insert((good.entry.name(), kind));
+                does_not_open(check, &call, kind);
+            }
         }
-        *done += 1;
-        let (answer, opened) = check.compare(&call);
-        let cleared = opened[..ciphertext_len(&call)]
-            .iter()
-            .all(|&byte| byte == 0);
-        let passed = answer == refusal(9, 0) && cleared;
-        check.record(passed, || format!("{call}: {name} answers {answer:#x}"));
     }
 }
 
 /// Each of the 256 bits of a tag counts.
 fn every_tag_bit(prng: &mut Prng, check: &mut Check, mode: u32, rounds: u32) {
-    for good in sealed(check, &Call::seal(prng, mode, rounds, 9, 150)) {
+    let seal = Call::seal(prng, mode, rounds, 9, 150);
+    for (good, ..) in good_calls(check, &seal) {
         for bit in 0..256 {
             let mut call = good.clone();
             call.inputs[3][150 + bit / 8] ^= 1 << (bit % 8);
-            check.answers(&call, refusal(9, 0));
+            does_not_open(check, &call, "a bit of the tag");
         }
     }
 }
 
-/// Open calls for the parcel that the library seals in `seal`, and for that of the old start.
-fn sealed(check: &mut Check, seal: &Call) -> [Call; 2] {
-    let len = seal.inputs[3].len();
-    let parcel = check.answers(seal, len as u64 + 32);
-    let open = |start, parcel| seal.clone().into_open(start, parcel, len + 200);
+/// Calls on the parcel that the library seals in `seal` and on that of the old start, each with its
+/// answer and with what its output then begins with.
+fn good_calls(check: &mut Check, seal: &Call) -> [(Call, u64, Vec<u8>); 4] {
+    let message = seal.inputs[3].clone();
+    let (len, room) = (message.len(), message.len() + 232);
+    let new = check.answers(seal, len as u64 + 32);
+    let old = seal.parcel(Start::Old);
+    let open = |start, parcel: &[u8]| seal.clone().into_open(start, parcel.to_vec(), room);
+    let convert = |parcel: &[u8]| seal.clone().into_convert(parcel.to_vec(), room);
     [
-        open(Start::New, parcel),
-        open(Start::Old, seal.parcel(Start::Old)),
+        (open(Start::New, &new), len as u64, message.clone()),
+        (open(Start::Old, &old), len as u64, message),
+        (convert(&new), refusal(17, 0), pattern(room)),
+        (convert(&old), len as u64 + 32, new),
     ]
 }
 
-/// Bytes of the ciphertext of an open call.
+/// Counts whether a call is refused with 9 and leaves its output as it has to.
+fn does_not_open(check: &mut Check, call: &Call, kind: &str) {
+    let (answer, output) = check.compare(call);
+    let mut wanted = call.output.clone();
+    if let Entry::Open { .. } = call.entry {
+        wanted[..ciphertext_len(call)].fill(0);
+    }
+    let passed = answer == refusal(9, 0) && output == wanted;
+    check.record(passed, || format!("{call}: {kind} answers {answer:#x}"));
+}
+
+/// Bytes of the ciphertext of an open or a convert call.
 fn ciphertext_len(call: &Call) -> usize {
     call.inputs[3].len() - 32
 }
@@ -127,6 +147,22 @@ fn flip_ciphertext(prng: &mut Prng, call: &mut Call) -> bool {
 fn flip_tag(prng: &mut Prng, call: &mut Call) -> bool {
     let len = ciphertext_len(call);
     flip(&mut call.inputs[3][len..], prng)
+}
+
+/// The ciphertext of one start and the tag that its message has under the other.
+fn other_tag(_: &mut Prng, call: &mut Call) -> bool {
+    let len = ciphertext_len(call);
+    for start in [Start::New, Start::Old] {
+        let mut open = call.clone().into_open(start, call.inputs[3].clone(), len);
+        let answer = expected(open.entry, &call.slices(), &mut open.output);
+        if len > 0 && answer == len as u64 {
+            open.inputs[3] = std::mem::take(&mut open.output);
+            let tag = open.parcel(other(start)).split_off(len);
+            call.inputs[3].splice(len.., tag);
+            return true;
+        }
+    }
+    false
 }
 
 fn cut_block(prng: &mut Prng, call: &mut Call) -> bool {
@@ -212,17 +248,13 @@ fn change_key(prng: &mut Prng, call: &mut Call) -> bool {
 }
 
 fn change_mode(_: &mut Prng, call: &mut Call) -> bool {
-    let Entry::Open { mode, .. } = &mut call.entry else {
-        return false;
-    };
+    let [mode, _] = call.entry.settings_mut();
     *mode ^= OPP ^ MRO;
     true
 }
 
 fn change_rounds(prng: &mut Prng, call: &mut Call) -> bool {
-    let Entry::Open { rounds, .. } = &mut call.entry else {
-        return false;
-    };
+    let [_, rounds] = call.entry.settings_mut();
     let others: Vec<u32> = ROUNDS.iter().copied().filter(|n| n != rounds).collect();
     *rounds = prng.pick(&others);
     true
@@ -232,9 +264,13 @@ fn change_start(_: &mut Prng, call: &mut Call) -> bool {
     let Entry::Open { start, .. } = &mut call.entry else {
         return false;
     };
-    *start = match start {
+    *start = other(*start);
+    true
+}
+
+fn other(start: Start) -> Start {
+    match start {
         Start::New => Start::Old,
         Start::Old => Start::New,
-    };
-    true
+    }
 }

@@ -1,6 +1,7 @@
 //! All lengths around the edges of blocks and of the limits.
 
 use crate::call::{pattern, Call};
+use crate::conversion;
 use crate::library::Library;
 use crate::prng::Prng;
 use crate::report::{Check, Tally};
@@ -11,8 +12,8 @@ const LONG: [usize; 12] = [
     4095, 4096, 4097, 65_407, 65_408, 65_409, 65_535, 65_536, 65_537, 65_568, 65_569, 131_072,
 ];
 
-/// Seals, and opens what was sealed, over edges of headers, messages and outputs; then the lists
-/// and counts of walk and jump.
+/// Seals, opens what was sealed and converts it, over edges of headers, messages and outputs; then
+/// the lists and counts of walk and jump.
 pub fn run(library: &Library, seed: u64) -> Tally {
     let mut prng = Prng::new(seed);
     let mut check = Check::new(library);
@@ -51,12 +52,34 @@ fn seal_and_open(prng: &mut Prng, check: &mut Check, mut seal: Call) {
     if allowed {
         check.record(sealed == len as u64 + 32, || format!("{seal}: refused"));
     }
-    let old = seal
-        .clone()
-        .into_open(Start::Old, seal.parcel(Start::Old), 0);
+    let old_parcel = seal.parcel(Start::Old);
+    let convert = seal.clone().into_convert(old_parcel.clone(), 0);
+    converts(prng, check, convert, allowed, &parcel);
+    let old = seal.clone().into_open(Start::Old, old_parcel, 0);
     opens(prng, check, old, allowed, &message);
     let new = seal.into_open(Start::New, parcel, 0);
     opens(prng, check, new, allowed, &message);
+}
+
+/// Converts a parcel over edges of the output, the message's length among them, and once damaged.
+/// Where it is `allowed`, it has to become the parcel `new`.
+fn converts(prng: &mut Prng, check: &mut Check, mut convert: Call, allowed: bool, new: &[u8]) {
+    let len = new.len();
+    for output_len in [len - 32, len - 1, len + 1, len + 100] {
+        convert.output = pattern(output_len);
+        check.compare(&convert);
+    }
+    convert.output = pattern(len);
+    let (answer, converted) = conversion::compare(check, &convert);
+    if allowed {
+        let same = answer == len as u64 && converted == new;
+        check.record(same, || format!("{convert}: not what is sealed"));
+    }
+    for parcel in [convert.inputs[3].clone(), new.to_vec()] {
+        convert.inputs[3] = parcel;
+        convert.inputs[3][prng.below(len)] ^= 4;
+        conversion::compare(check, &convert);
+    }
 }
 
 /// Opens a parcel over edges of the output, and once damaged. Where it is `allowed`, its message has
@@ -82,10 +105,11 @@ fn opens(prng: &mut Prng, check: &mut Check, mut open: Call, allowed: bool, mess
 fn short_parcels(prng: &mut Prng, check: &mut Check, mode: u32, rounds: u32) {
     for len in 0..=33 {
         let seal = Call::seal(prng, mode, rounds, 3, len);
+        let parcel = seal.inputs[3].clone();
         for start in [Start::New, Start::Old] {
-            let parcel = seal.inputs[3].clone();
-            check.compare(&seal.clone().into_open(start, parcel, 40));
+            check.compare(&seal.clone().into_open(start, parcel.clone(), 40));
         }
+        conversion::compare(check, &seal.into_convert(parcel, 40));
     }
 }
 

@@ -1,7 +1,7 @@
 //! Every set of grounds that can hold at once: the first in the order of the checks wins.
 
 use crate::call::{pattern, Call, Entry};
-use crate::library::{refusal, Library};
+use crate::library::{expected, refusal, Library};
 use crate::prng::Prng;
 use crate::report::{Check, Tally};
 use crate::stores::sound::{random_sale, KIND_AT};
@@ -24,7 +24,8 @@ const SEAL: [Ground; 7] = [
     (7, short_output),
 ];
 
-/// The grounds of open, under either start, in the order of its checks, but for 8, which excludes 6.
+/// The grounds of open, under either start, and of convert in the order of their checks, but for 8,
+/// which excludes 6.
 const OPEN: [Ground; 8] = [
     (1, bad_mode),
     (2, bad_rounds),
@@ -46,6 +47,9 @@ const OPEN_SHORT: [Ground; 6] = [
     (8, short_parcel),
 ];
 
+/// The ground of convert alone, which excludes 9.
+const DONE: [Ground; 1] = [(17, done_already)];
+
 const WALK: [Ground; 4] = [
     (10, bad_start),
     (13, long_list),
@@ -56,10 +60,11 @@ const WALK: [Ground; 4] = [
 const JUMP: [Ground; 3] = [(10, bad_start), (11, bad_count), (7, no_output)];
 
 /// The entry points and all their grounds.
-pub const ENTRIES: [(&str, Grounds); 5] = [
+pub const ENTRIES: [(&str, Grounds); 6] = [
     ("seal", &[&SEAL]),
     ("open", &[&OPEN, &OPEN_SHORT]),
     ("open_old", &[&OPEN, &OPEN_SHORT]),
+    ("convert", &[&OPEN, &OPEN_SHORT, &DONE]),
     ("walk", &[&WALK]),
     ("jump", &[&JUMP]),
 ];
@@ -107,15 +112,7 @@ pub fn run(library: &Library, seed: u64) -> Tally {
     for (mode, rounds) in settings() {
         let seal = Call::seal(&mut prng, mode, rounds, 40, 70);
         all_sets(&mut check, &SEAL, &seal, 102);
-        let parcels = [
-            (Start::New, check.answers(&seal, 102)),
-            (Start::Old, seal.parcel(Start::Old)),
-        ];
-        for (start, parcel) in parcels {
-            let open = seal.clone().into_open(start, parcel, 102);
-            all_sets(&mut check, &OPEN, &open, 70);
-            all_sets(&mut check, &OPEN_SHORT, &open, 70);
-        }
+        parcels(&mut check, &seal);
     }
     round_counts(&mut prng, &mut check);
     let walk = Call::walk(prng.bytes(128), vec![1, 5, 6], 128);
@@ -124,6 +121,25 @@ pub fn run(library: &Library, seed: u64) -> Tally {
     all_sets(&mut check, &JUMP, &jump, 128);
     stores(&mut prng, &mut check);
     check.tally
+}
+
+/// The parcels that `seal` gives under both starts, opened and converted. Before 17 come all grounds
+/// of open but 9, and a damaged parcel is of neither start.
+fn parcels(check: &mut Check, seal: &Call) {
+    let parcels = [
+        (Start::New, check.answers(seal, 102), refusal(17, 0)),
+        (Start::Old, seal.parcel(Start::Old), 102),
+    ];
+    for (start, parcel, converted) in parcels {
+        let open = seal.clone().into_open(start, parcel.clone(), 102);
+        let convert = seal.clone().into_convert(parcel, 102);
+        for (call, done) in [(open, 70), (convert, converted)] {
+            all_sets(check, &OPEN, &call, done);
+            all_sets(check, &OPEN_SHORT, &call, done);
+        }
+    }
+    let convert = seal.clone().into_convert(seal.parcel(Start::Old), 102);
+    all_sets(check, &DONE, &convert, 102);
 }
 
 /// A store with sales in cells 2 and 1, in this order, and with cell 3 free.
@@ -154,7 +170,8 @@ fn round_counts(prng: &mut Prng, check: &mut Check) {
             let (_, parcel) = check.compare(&seal);
             check.compare(&seal.clone().into_open(Start::New, parcel, 5));
             let parcel = seal.parcel(Start::Old);
-            check.compare(&seal.into_open(Start::Old, parcel, 5));
+            check.compare(&seal.clone().into_open(Start::Old, parcel.clone(), 5));
+            check.compare(&seal.into_convert(parcel, 37));
         }
     }
 }
@@ -181,15 +198,13 @@ fn all_sets(check: &mut Check, grounds: &[Ground], good: &Call, done: u64) {
 }
 
 fn bad_mode(call: &mut Call) {
-    if let Entry::Seal { mode, .. } | Entry::Open { mode, .. } = &mut call.entry {
-        *mode = 3;
-    }
+    let [mode, _] = call.entry.settings_mut();
+    *mode = 3;
 }
 
 fn bad_rounds(call: &mut Call) {
-    if let Entry::Seal { rounds, .. } | Entry::Open { rounds, .. } = &mut call.entry {
-        *rounds = 5;
-    }
+    let [_, rounds] = call.entry.settings_mut();
+    *rounds = 5;
 }
 
 fn bad_key(call: &mut Call) {
@@ -206,30 +221,34 @@ fn bad_header(call: &mut Call) {
 
 fn long_input(call: &mut Call) {
     call.inputs[3].resize(65_537, 0);
-    call.output = pattern(65_569);
+    call.output = pattern(call.written());
 }
 
 fn long_parcel(call: &mut Call) {
     call.inputs[3].resize(65_569, 0);
-    call.output = pattern(65_537);
+    call.output = pattern(call.written());
 }
 
 fn short_parcel(call: &mut Call) {
     call.inputs[3].truncate(31);
 }
 
-/// One byte short for either entry point, after the input has its length.
+/// One byte short, after the input has its length.
 fn short_output(call: &mut Call) {
-    call.output = pattern(match call.entry {
-        Entry::Open { .. } => call.inputs[3].len() - 33,
-        _ => call.inputs[3].len() + 31,
-    });
+    call.output = pattern(call.written() - 1);
 }
 
 fn bad_tag(call: &mut Call) {
     if let Some(byte) = call.inputs[3].last_mut() {
         *byte ^= 0x80;
     }
+}
+
+/// The parcel of a good conversion becomes what it is converted to.
+fn done_already(call: &mut Call) {
+    let mut parcel = pattern(call.written());
+    expected(call.entry, &call.slices(), &mut parcel);
+    call.inputs[3] = parcel;
 }
 
 fn bad_start(call: &mut Call) {

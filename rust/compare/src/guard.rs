@@ -29,23 +29,25 @@ pub fn run(library: &str) -> Tally {
 }
 
 /// The child: makes every call at both edges. Of each entry point some have to succeed, since a
-/// refused call need not touch its buffers.
+/// refused call need not touch its buffers. Some conversions have to fail by what they have read.
 pub fn child(library: &Library) {
-    let mut touched = BTreeSet::new();
+    let mut met = BTreeSet::new();
     for call in calls() {
         for edge in [Edge::First, Edge::Last] {
             child::call(format_args!("{call}, {edge:?} in its pages"));
             let answer = agrees(library, &call, edge);
-            if matches!(answer, Ok(answer) if answer >> 32 == 0) {
-                touched.insert(call.entry.name());
+            if let Ok(answer) = answer {
+                met.insert((call.entry.name(), answer >> 32));
             }
             child::outcome(answer.map(drop));
         }
     }
-    for (name, _) in ENTRIES.iter().chain(&STORE_ENTRIES) {
+    let entries = ENTRIES.iter().chain(&STORE_ENTRIES);
+    let succeeded = entries.map(|(name, _)| (*name, 0));
+    for (name, number) in succeeded.chain([("convert", 9), ("convert", 17)]) {
         child::call(name);
-        let refused = || "every call was refused".into();
-        child::outcome(touched.get(name).map(drop).ok_or_else(refused));
+        let none = || format!("no call met refusal {number}, 0 for none");
+        child::outcome(met.get(&(name, number)).map(drop).ok_or_else(none));
     }
     child::done();
 }
@@ -87,18 +89,28 @@ fn calls() -> Vec<Call> {
     calls
 }
 
-/// A seal call, one with too short an output, and under each start an open of the parcel and one of
-/// a damaged parcel.
-fn sealing(calls: &mut Vec<Call>, mut seal: Call) {
+/// A seal call, and under each start an open and a conversion of the parcel; each of them also with
+/// too short an output, and the last two of a damaged parcel.
+fn sealing(calls: &mut Vec<Call>, seal: Call) {
     let len = seal.inputs[3].len();
-    calls.push(seal.clone());
-    seal.output.pop();
-    calls.push(seal.clone());
+    short_output(calls, seal.clone());
     for start in [Start::New, Start::Old] {
-        let mut open = seal.clone().into_open(start, seal.parcel(start), len);
-        calls.push(open.clone());
-        open.inputs[3][len / 2] ^= 1;
-        calls.push(open);
+        let parcel = seal.parcel(start);
+        let open = seal.clone().into_open(start, parcel.clone(), len);
+        let convert = seal.clone().into_convert(parcel, len + 32);
+        for mut call in [open, convert] {
+            short_output(calls, call.clone());
+            call.inputs[3][len / 2] ^= 1;
+            calls.push(call);
+        }
+    }
+}
+
+/// A call as it is, and one whose output is a byte shorter.
+fn short_output(calls: &mut Vec<Call>, mut call: Call) {
+    calls.push(call.clone());
+    if call.output.pop().is_some() {
+        calls.push(call);
     }
 }
 

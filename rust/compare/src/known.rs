@@ -10,7 +10,9 @@ pub fn run(library: &Library) -> Tally {
     let mut check = Check::new(library);
     steps(&mut check);
     zeros(&mut check);
+    conversions(&mut check);
     sealing_limits(&mut check);
+    parcel_limits(&mut check);
     mask_limits(&mut check);
     check.tally
 }
@@ -54,10 +56,13 @@ fn steps(check: &mut Check) {
     }
 }
 
+/// P10 and P11: a mode and the length of a message of zeros that has zeros for a parcel.
+const ZEROS: [(&str, u32, usize); 3] = [("P10", OPP, 0), ("P10", MRO, 0), ("P11", OPP, 128)];
+
 /// The parcels of P10 and P11, which open under the old start and no longer under the new one. P2 is
 /// behind both, since an old start of zeros gives masks of zeros.
 fn zeros(check: &mut Check) {
-    for (name, mode, len) in [("P10", OPP, 0), ("P10", MRO, 0), ("P11", OPP, 128)] {
+    for (name, mode, len) in ZEROS {
         for &rounds in ROUNDS {
             for (start, wanted) in [(Start::Old, len as u64), (Start::New, refusal(9, 0))] {
                 let mut message = pattern(len);
@@ -71,6 +76,35 @@ fn zeros(check: &mut Check) {
                 let passed = answer == wanted && message == vec![0; len];
                 check.record(passed, || format!("{name}: {answer:#x}"));
             }
+        }
+    }
+}
+
+/// The same parcels become what is sealed of their messages, which is then done already; and a
+/// refusal changes no output.
+fn conversions(check: &mut Check) {
+    let lines = ZEROS
+        .into_iter()
+        .flat_map(|line| ROUNDS.iter().map(move |&rounds| (line, rounds)));
+    for ((name, mode, len), rounds) in lines {
+        let library = check.library;
+        let call = |entry, input: &[u8]| {
+            let mut output = pattern(len + 32);
+            let inputs: [&[u8]; 4] = [&[0; 32], &[0; 16], &[], input];
+            (library.call(entry, &inputs, &mut output, false), output)
+        };
+        let old = vec![0; len + 32];
+        let (_, new) = call(Entry::Seal { mode, rounds }, &old[..len]);
+        let mut neither = new.clone();
+        neither[len] ^= 1;
+        for (parcel, wanted, output) in [
+            (&old, len as u64 + 32, &new),
+            (&new, refusal(17, 0), &pattern(len + 32)),
+            (&neither, refusal(9, 0), &pattern(len + 32)),
+        ] {
+            let (answer, found) = call(Entry::Convert { mode, rounds }, parcel);
+            let passed = answer == wanted && found == *output;
+            check.record(passed, || format!("{name}, converted: {answer:#x}"));
         }
     }
 }
@@ -117,6 +151,29 @@ fn sealing_limits(check: &mut Check) {
             };
             answers(check, name, entry, &inputs, &mut [], wanted);
         }
+    }
+}
+
+/// Zero key and nonce, so under the old start whole blocks of zeros, in the header too, have zeros
+/// for a parcel of OPP.
+fn parcel_limits(check: &mut Check) {
+    let (mode, rounds) = (OPP, ROUNDS[0]);
+    for (name, header, parcel, output, wanted) in [
+        ("a header of 4,096", 4096, 32, 32, 32),
+        ("a header of 4,097", 4097, 32, 32, refusal(5, 0)),
+        ("a parcel of 31", 0, 31, 31, refusal(8, 0)),
+        ("a parcel of 32", 0, 32, 32, 32),
+        ("an output of 31", 0, 32, 31, refusal(7, 0)),
+        ("a parcel of 160", 0, 160, 160, 160),
+        ("an output of 159", 0, 160, 159, refusal(7, 0)),
+        ("a parcel of 65,568", 0, 65_568, 65_568, 65_568),
+        ("an output of 65,567", 0, 65_568, 65_567, refusal(7, 0)),
+        ("a parcel of 65,569", 0, 65_569, 65_569, refusal(6, 0)),
+    ] {
+        let buffers = [32, 16, header, parcel].map(|len| vec![0; len]);
+        let inputs: Vec<&[u8]> = buffers.iter().map(Vec::as_slice).collect();
+        let entry = Entry::Convert { mode, rounds };
+        answers(check, name, entry, &inputs, &mut pattern(output), wanted);
     }
 }
 

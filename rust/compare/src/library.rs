@@ -38,6 +38,7 @@ pub struct Functions {
     seal: Sealing,
     open: Sealing,
     open_old: Sealing,
+    convert: Sealing,
     walk: Walking,
     jump: Jumping,
     format: Formatting,
@@ -52,6 +53,7 @@ pub const BASELINE: Library = Library::Foreign(Functions {
     seal: baseline::baseline_seal,
     open: baseline::baseline_open,
     open_old: baseline::baseline_open_old,
+    convert: baseline::baseline_convert,
     walk: baseline::baseline_walk,
     jump: baseline::baseline_jump,
     format: baseline::baseline_store_format,
@@ -67,6 +69,7 @@ pub const ARCHIVE: Option<Library> = Some(Library::Foreign(Functions {
     seal: calmbaize::ffi::calmbaize_seal,
     open: calmbaize::ffi::calmbaize_open,
     open_old: calmbaize::ffi::calmbaize_open_old,
+    convert: calmbaize::ffi::calmbaize_convert,
     walk: calmbaize::ffi::calmbaize_walk,
     jump: calmbaize::ffi::calmbaize_jump,
     format: calmbaize::ffi::calmbaize_store_format,
@@ -112,6 +115,7 @@ impl Functions {
                 Start::New => sealing(self.open, mode, rounds),
                 Start::Old => sealing(self.open_old, mode, rounds),
             },
+            Entry::Convert { mode, rounds } => sealing(self.convert, mode, rounds),
             // SAFETY: as above.
             Entry::Walk => unsafe { (self.walk)(at(0), len(0), at(1), len(1), out, out_len) },
             Entry::Jump { counts: [a, b, c] } => {
@@ -197,6 +201,9 @@ pub fn expected(entry: Entry, inputs: &[&[u8]], output: &mut [u8]) -> u64 {
         ) => {
             let inputs = [key, nonce, header, parcel];
             reference::open_under(start, mode, rounds, inputs, output)
+        }
+        (Entry::Convert { mode, rounds }, &[key, nonce, header, parcel]) => {
+            reference::convert(mode, rounds, [key, nonce, header, parcel], output)
         }
         (Entry::Walk, [start, steps]) => reference::walk(start, steps, output),
         (Entry::Jump { counts }, [start]) => reference::jump(start, counts, output),

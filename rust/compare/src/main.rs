@@ -6,6 +6,7 @@
 mod call;
 mod case;
 mod child;
+mod conversion;
 mod damage;
 mod edges;
 mod grounds;

@@ -14,7 +14,7 @@ checks:
   damage      parcels damaged in every way
   masks       orders of steps, jumps, and the paper's polynomial
   guard       every buffer at the edge of a page that can't be touched
-  random      random calls of seal, both opens, walk and jump
+  random      random calls of seal, both opens, convert, walk and jump
   store       histories of sale stores, held against a ledger too
   store-damage
               stores damaged in every way, and all shapes of small ones

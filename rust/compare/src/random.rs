@@ -1,6 +1,8 @@
-//! Random calls of seal, both opens, walk and jump: long and short, valid, refused and damaged.
+//! Random calls of seal, both opens, convert, walk and jump: long and short, valid, refused and
+//! damaged.
 
 use crate::call::{pattern, Call, Entry};
+use crate::conversion;
 use crate::damage;
 use crate::grounds::ENTRIES;
 use crate::library::Library;
@@ -22,7 +24,10 @@ pub fn run(library: &Library, seed: u64, calls: u64) -> Tally {
     let begin = Instant::now();
     for n in 1..=calls {
         let call = random_call(&mut prng);
-        let (answer, _) = check.compare(&call);
+        let (answer, _) = match call.entry {
+            Entry::Convert { .. } => conversion::compare(&mut check, &call),
+            _ => check.compare(&call),
+        };
         met.add(&call, answer);
         if n % 50_000 == 0 {
             println!("  {n} calls, {:.0} s", begin.elapsed().as_secs_f64());
@@ -39,8 +44,9 @@ pub fn run(library: &Library, seed: u64, calls: u64) -> Tally {
 
 fn random_call(prng: &mut Prng) -> Call {
     match prng.below(10) {
-        0..=3 => random_seal(prng),
-        4..=7 => random_open(prng),
+        0..=1 => random_seal(prng),
+        2..=5 => random_open(prng),
+        6..=7 => random_convert(prng),
         8 => random_walk(prng),
         _ => random_jump(prng),
     }
@@ -70,7 +76,21 @@ fn random_open(prng: &mut Prng) -> Call {
     let start = prng.pick(&[Start::New, Start::Old]);
     let parcel = sealing.parcel(start);
     let output_len = output_length(prng, parcel.len() - 32);
-    let mut call = sealing.into_open(start, parcel, output_len);
+    let call = sealing.into_open(start, parcel, output_len);
+    half_damaged(prng, call)
+}
+
+/// The same to be converted: a parcel of the new start is done already.
+fn random_convert(prng: &mut Prng) -> Call {
+    let sealing = random_seal(prng);
+    let parcel = sealing.parcel(prng.pick(&[Start::New, Start::Old]));
+    let output_len = output_length(prng, parcel.len());
+    let call = sealing.into_convert(parcel, output_len);
+    half_damaged(prng, call)
+}
+
+/// A call damaged half of the time; now and then its parcel is cut to a tag or less.
+fn half_damaged(prng: &mut Prng, mut call: Call) -> Call {
     if prng.once_in(2) {
         damage::random(prng, &mut call);
     }

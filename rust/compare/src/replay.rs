@@ -13,7 +13,7 @@ use reference::Start;
 type Replay = fn(&Library, &mut Case) -> Result<(), String>;
 
 /// The calls that can be replayed, by their word. Another call is another line here.
-const CALLS: [(&str, Replay); 8] = [
+const CALLS: [(&str, Replay); 9] = [
     ("seal", |library, case| {
         sealing(library, case, |mode, rounds| Entry::Seal { mode, rounds })
     }),
@@ -27,6 +27,12 @@ const CALLS: [(&str, Replay); 8] = [
     ("open_old", |library, case| {
         sealing(library, case, |mode, rounds| Entry::Open {
             start: Start::Old,
+            mode,
+            rounds,
+        })
+    }),
+    ("convert", |library, case| {
+        sealing(library, case, |mode, rounds| Entry::Convert {
             mode,
             rounds,
         })

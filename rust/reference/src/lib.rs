@@ -94,13 +94,7 @@ pub fn seal_under(
         (output.len() < parcel_len, 7),
     ])?;
     let cipher = Cipher::new(start, rounds, key, nonce);
-    let parcel = if mode == OPP {
-        [cipher.opp_encrypt(message), cipher.opp_tag(header, message)].concat()
-    } else {
-        let tag = cipher.mro_tag(header, message);
-        [cipher.mro_transform(&tag, message), tag].concat()
-    };
-    Ok(write(&parcel, output))
+    Ok(write(&parcel_of(&cipher, mode, header, message), output))
 }
 
 /// Opens under either start: `open`, and under the old one `open_old`.
@@ -111,14 +105,49 @@ pub fn open_under(
     [key, nonce, header, parcel]: [&[u8]; 4],
     output: &mut [u8],
 ) -> Result<usize, Refusal> {
+    let message_len = parcel.len().saturating_sub(TAG_LEN);
     check_settings(mode, rounds, key, nonce, header)?;
-    check(&[
-        (parcel.len() < TAG_LEN, 8),
-        (parcel.len() > MAX_MESSAGE_LEN + TAG_LEN, 6),
-        (output.len() + TAG_LEN < parcel.len(), 7),
-    ])?;
-    let (ciphertext, tag) = parcel.split_at(parcel.len() - TAG_LEN);
+    check_parcel(parcel, output.len() < message_len)?;
     let cipher = Cipher::new(start, rounds, key, nonce);
+    match message_of(&cipher, mode, header, parcel) {
+        Some(message) => Ok(write(&message, output)),
+        None => {
+            output[..message_len].fill(0);
+            Err((9, 0))
+        }
+    }
+}
+
+/// Seals the message of a parcel of the old start under the new one. A refusal changes no output.
+pub fn convert(
+    mode: u32,
+    rounds: u32,
+    [key, nonce, header, parcel]: [&[u8]; 4],
+    output: &mut [u8],
+) -> Result<usize, Refusal> {
+    check_settings(mode, rounds, key, nonce, header)?;
+    check_parcel(parcel, output.len() < parcel.len())?;
+    let [old, new] = [Start::Old, Start::New].map(|start| Cipher::new(start, rounds, key, nonce));
+    match message_of(&old, mode, header, parcel) {
+        Some(message) => Ok(write(&parcel_of(&new, mode, header, &message), output)),
+        None if message_of(&new, mode, header, parcel).is_some() => Err((17, 0)),
+        None => Err((9, 0)),
+    }
+}
+
+/// The ciphertext and then the tag.
+fn parcel_of(cipher: &Cipher, mode: u32, header: &[u8], message: &[u8]) -> Vec<u8> {
+    if mode == OPP {
+        [cipher.opp_encrypt(message), cipher.opp_tag(header, message)].concat()
+    } else {
+        let tag = cipher.mro_tag(header, message);
+        [cipher.mro_transform(&tag, message), tag].concat()
+    }
+}
+
+/// The message, where the tag is the one that it has to be.
+fn message_of(cipher: &Cipher, mode: u32, header: &[u8], parcel: &[u8]) -> Option<Vec<u8>> {
+    let (ciphertext, tag) = parcel.split_at(parcel.len() - TAG_LEN);
     let (message, expected) = if mode == OPP {
         let message = cipher.opp_decrypt(ciphertext);
         let expected = cipher.opp_tag(header, &message);
@@ -128,11 +157,7 @@ pub fn open_under(
         let expected = cipher.mro_tag(header, &message);
         (message, expected)
     };
-    if tag != expected {
-        output[..message.len()].fill(0);
-        return Err((9, 0));
-    }
-    Ok(write(&message, output))
+    (tag == expected).then_some(message)
 }
 
 /// Writes the block reached from `start` by `steps`.
@@ -166,7 +191,7 @@ pub fn jump(start: &[u8], counts: [i32; 3], output: &mut [u8]) -> Result<usize, 
     Ok(write(&block::to_bytes(&reached), output))
 }
 
-/// The first five checks of seal and open.
+/// The first five checks of seal, open and convert.
 fn check_settings(
     mode: u32,
     rounds: u32,
@@ -180,6 +205,15 @@ fn check_settings(
         key_ground(key),
         (nonce.len() != NONCE_LEN, 4),
         (header.len() > MAX_HEADER_LEN, 5),
+    ])
+}
+
+/// The next three of open and convert, which differ in when the output is too `short`.
+fn check_parcel(parcel: &[u8], short: bool) -> Result<(), Refusal> {
+    check(&[
+        (parcel.len() < TAG_LEN, 8),
+        (parcel.len() > MAX_MESSAGE_LEN + TAG_LEN, 6),
+        (short, 7),
     ])
 }
 

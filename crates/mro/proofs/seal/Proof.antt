@@ -1,4 +1,5 @@
 -- The ciphertext written to the front, the tag behind it. Assumes nothing.
+use mathlib.Core.Path.{refl}
 use native.Mathlib.Omega.{arith}
 use lib.ListN.{length-drop}
 use denote.Ref.{now}
@@ -38,7 +39,7 @@ returns c =
     let start = c .before .before .before .before .before .before .before .before .before .before .before .before in
     let tag = c .before .before .before .before .before .before .before .before .tag-block in
     let m = now (start .args .message) in
-    sealed-as (mroMode (start .args .rounds) (start .args .start)) (mro-lawful (start .args .rounds) (start .args .start)) (now (start .args .header)) m (tagBytes (tag .result)) (now (start .args .out)) _ _
+    sealed-as (mroMode (start .args .rounds) (start .args .start)) (mro-lawful (start .args .rounds) (start .args .start)) (now (start .args .header)) m _ refl (tagBytes (tag .result)) (now (start .args .out)) _ _
     (rw (tag .ensures)) (c .before .before .before .before .before .before .xor-stream .ensures) (c .before .before .store-tag .ensures)
 
 pub seal-spec : {M : Type 1} → statement M

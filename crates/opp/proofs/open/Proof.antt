@@ -51,7 +51,7 @@ returns c =
     let bytes : Bytes s = bytes-take (length parcel - 32) parcel all in
     let long : length s ≡ length parcel - 32 = length-take-le (length parcel - 32) parcel (omega arith) in
     let pass = c .before .before .before .before .before .before .before .pass .ensures in
-    let tag = tag-is (a .rounds) (a .start) s block bytes true (now (a .header)) _ pass (c .before .before .before .before .tag-block .ensures) in
+    let tag = tag-is (a .rounds) (a .start) s block bytes true (now (a .header)) _ (pass .all-checked) (pass .last-mask) (c .before .before .before .before .tag-block .ensures) in
     rw (← opened-is (oppMode (a .rounds) (a .start)) (opp-lawful (a .rounds) (a .start) block) (now (a .header)) parcel (now (a .out)) (omega arith))
     (rw (tag, pass .all-written, long) at (c .before .before .verify .ensures))
 

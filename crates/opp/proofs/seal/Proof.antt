@@ -1,4 +1,5 @@
 -- The ciphertext, and behind it the tag. Assumes nothing.
+use mathlib.Core.Path.{refl}
 use denote.Ref.{now}
 use mathlib.Core.Bool.{false}
 use Rattle.words.specs.Block.{Block, Bytes}
@@ -44,8 +45,8 @@ returns c =
     let block : Block (a .start) = array-block _ _ (start .good .0) in
     let bytes : Bytes m = record { bytes = λ i. c .before .before .before .before .before .before .before .before .before .before .shared-slice-known2 .given i .fits } in
     let pass = c .before .before .before .before .before .before .before .pass .ensures in
-    let tag = tag-is (a .rounds) (a .start) m block bytes false (now (a .header)) _ pass (c .before .before .before .before .tag-block .ensures) in
-    sealed-as (oppMode (a .rounds) (a .start)) (opp-lawful (a .rounds) (a .start) block) (now (a .header)) m _ (now (a .out)) _ _ tag (pass .all-written) (c .before .before .store-tag .ensures)
+    let tag = tag-is (a .rounds) (a .start) m block bytes false (now (a .header)) _ (pass .all-checked) (pass .last-mask) (c .before .before .before .before .tag-block .ensures) in
+    sealed-as (oppMode (a .rounds) (a .start)) (opp-lawful (a .rounds) (a .start) block) (now (a .header)) m _ refl _ (now (a .out)) _ _ tag (pass .all-written) (c .before .before .store-tag .ensures)
 
 pub seal-spec : {M : Type 1} → statement M
 seal-spec =

@@ -38,6 +38,11 @@ fn with_output(args: &[&str], output: &Path) -> Vec<OsString> {
     args.chain(["-o".into(), output.into()]).collect()
 }
 
+pub fn make_pipe(path: &Path) {
+    let made = Command::new("mkfifo").arg(path).status().unwrap();
+    assert!(made.success());
+}
+
 pub fn names(folder: &Path) -> Vec<OsString> {
     let entries = fs::read_dir(folder).unwrap();
     entries.map(|entry| entry.unwrap().file_name()).collect()
@@ -220,11 +225,7 @@ fn a_refusal_writes_nothing() {
     assert_eq!(names(&folder), ["output"]);
     // A pipe that no one reads would hold up a tool that opens it.
     let pipe = folder.join("pipe");
-    assert!(Command::new("mkfifo")
-        .arg(&pipe)
-        .status()
-        .unwrap()
-        .success());
+    make_pipe(&pipe);
     refused(&pipe);
 }
 

@@ -1,7 +1,10 @@
 //! The tool as a user runs it.
 
+mod convert;
 mod files;
+mod progress;
 mod store;
+mod thousand;
 mod usage;
 
 use calmbaize::Rounds;
@@ -86,26 +89,33 @@ fn seals_and_opens_with_every_mode_and_count() {
     );
 }
 
-/// Parcels of version 0.3.0: "sale" with the header "post", under OPP and MRO.
+/// Parcels of version 0.3.0: "sale" under the settings below, by mode.
+const OF_0_3_0: [(&str, &[u8]); 2] = [
+    (
+        "opp",
+        b"\xbc\x65\xe2\xd4\x72\xae\xc0\x71\x4c\x3b\xfb\xc3\x25\xe9\xd4\x9f\x89\xd2\x63\x67\x61\x78\x57\x0a\xe6\xa8\x14\xb7\xd0\x03\xf9\x40\xf8\xdf\xf3\xd2",
+    ),
+    (
+        "mro",
+        b"\x1c\xc0\xd5\x4a\x06\x4b\xc8\xcb\xd4\x84\xb4\xfc\xa8\x87\x2e\xbc\x35\x84\x34\x3b\x36\x4d\xc5\x82\x23\x84\x63\x3d\x62\xdf\x96\x26\xae\x79\x29\xfa",
+    ),
+];
+
+/// A command with the settings of those parcels; the header is "post".
+fn as_of_0_3_0<'a>(command: &'a str, mode: &'a str) -> Vec<&'a str> {
+    let nonce = ["--nonce", "000102030405060708090a0b0c0d0e0f"];
+    let header = ["--header", "706f7374", "--mode", mode];
+    [&[command, "--key", KEY], &nonce[..], &header].concat()
+}
+
 #[test]
 fn old_parcels_open_where_the_old_start_is_asked_for() {
-    let settings = ["--key", KEY, "--nonce", "000102030405060708090a0b0c0d0e0f"];
-    let settings = [&settings[..], &["--header", "706f7374", "--mode"]].concat();
-    for (mode, parcel) in [
-        (
-            "opp",
-            b"\xbc\x65\xe2\xd4\x72\xae\xc0\x71\x4c\x3b\xfb\xc3\x25\xe9\xd4\x9f\x89\xd2\x63\x67\x61\x78\x57\x0a\xe6\xa8\x14\xb7\xd0\x03\xf9\x40\xf8\xdf\xf3\xd2",
-        ),
-        (
-            "mro",
-            b"\x1c\xc0\xd5\x4a\x06\x4b\xc8\xcb\xd4\x84\xb4\xfc\xa8\x87\x2e\xbc\x35\x84\x34\x3b\x36\x4d\xc5\x82\x23\x84\x63\x3d\x62\xdf\x96\x26\xae\x79\x29\xfa",
-        ),
-    ] {
-        let open = [&["open"], &settings[..], &[mode]].concat();
+    for (mode, parcel) in OF_0_3_0 {
+        let open = as_of_0_3_0("open", mode);
         let old = [&open[..], &["--old-start"]].concat();
         assert_eq!(succeeds(&old, parcel), b"sale");
         assert!(fails(&open, parcel, 1).contains("refused with 9"));
-        let new = succeeds(&[&["seal"], &settings[..], &[mode]].concat(), b"sale");
+        let new = succeeds(&as_of_0_3_0("seal", mode), b"sale");
         assert_eq!(succeeds(&open, &new), b"sale");
         assert!(fails(&old, &new, 1).contains("refused with 9"));
     }

@@ -3,9 +3,10 @@
 use crate::{fails, run, sealing, succeeds, KEY, NONCE};
 use calmbaize::Rounds;
 
-const COMMANDS: [&[&str]; 10] = [
+const COMMANDS: [&[&str]; 11] = [
     &["seal"],
     &["open"],
+    &["convert"],
     &["walk"],
     &["jump"],
     &["store", "format"],
@@ -22,7 +23,7 @@ fn help(command: &[&str]) -> String {
 }
 
 /// Arguments, and what the error says.
-const WRONG: [(&[&str], &str); 29] = [
+const WRONG: [(&[&str], &str); 32] = [
     (&[], "no command"),
     (&["wrap"], "unknown command 'wrap'"),
     (&["seal"], "--key or --key-file is needed"),
@@ -30,6 +31,12 @@ const WRONG: [(&[&str], &str); 29] = [
     (&["seal", "--steps", "a"], "unknown option '--steps'"),
     (&["seal", "--old-start"], "unknown option '--old-start'"),
     (&["open", "--old-start=yes"], "--old-start takes no value"),
+    (&["convert"], "--key or --key-file is needed"),
+    (
+        &["convert", "--key", KEY, "-i", "x"],
+        "--nonce or --nonce-file is needed; see 'calmbaize convert --help'",
+    ),
+    (&["convert", "--old-start"], "unknown option '--old-start'"),
     (&["seal", "--key"], "--key needs a value"),
     (
         &["seal", "--key", "0"],

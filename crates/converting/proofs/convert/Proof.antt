@@ -1,0 +1,85 @@
+-- What the checks find is refused; where they are clear, the parcel is judged under each start, and one of three ways is taken. Assumes nothing.
+use mathlib.Core.Path.{sym, _∙_}
+use Rattle.answers.proofs.Values.{refused, allowed}
+use Rattle.checks.proofs.Clears.{convert-clear}
+use Rattle.converting.specs.Converting.{convertCall}
+use Rattle.converting.proofs.Answered.{converted-where, done-where, neither-where}
+use borrow.Author.Needs.{needs}
+use Rattle.converting.proofs.convert.Statement.{statement}
+use Rattle.converting.proofs.convert.Tie as tie
+
+check-convert-requires : tie.Need-check-convert-requires
+check-convert-requires c κs = search needs
+
+enum-known-found : tie.Need-enum-known-found
+enum-known-found c = search needs
+
+returns : tie.Need-returns
+unfolding convertCall
+returns c = refused _ _ _ _ (c .before .before .before .check-convert .ensures) (c .before .found .given .1)
+
+enum-told : tie.Need-enum-told
+enum-told c = search needs
+
+start-requires : tie.Need-start-requires
+start-requires c κs = convert-clear _ _ _ _ _ _ _ (sym (c .before .before .check-convert .ensures) ∙ c .enum-told .given .1) .0
+
+start-requires-2 : tie.Need-start-requires-2
+start-requires-2 c κs = convert-clear _ _ _ _ _ _ _ (sym (c .before .before .before .check-convert .ensures) ∙ c .before .enum-told .given .1) .0
+
+judge-requires : tie.Need-judge-requires
+judge-requires c κs = convert-clear _ _ _ _ _ _ _ (sym (c .before .before .before .before .check-convert .ensures) ∙ c .before .before .enum-told .given .1) .1 .0 .0
+
+reseal-requires : tie.Need-reseal-requires
+reseal-requires c κs =
+    let h = convert-clear _ _ _ _ _ _ _ (sym (c .before .before .before .before .before .before .before .check-convert .ensures) ∙ c .before .before .before .before .before .enum-told .given .1) .1 in
+    (h .0 .0, h .1)
+
+same-length : tie.Need-same-length
+same-length c = search needs
+
+returns-2 : tie.Need-returns-2
+unfolding convertCall
+returns-2 c =
+    let old = c .before .before .before .before .before .before .before .start .ensures in
+    let new = c .before .before .before .before .before .before .start2 .ensures in
+    let opens = rw old at (sym (c .before .before .before .before .before .judge .ensures) ∙ c .before .before .before .before .if1 .taken) in
+    converted-where _ _ _ _ _ _ opens (rw (old, new) at (c .before .before .reseal .ensures))
+    ∙ allowed _ _ (c .before .before .before .before .before .before .before .before .before .before .check-convert .ensures) (c .before .before .before .before .before .before .before .before .enum-told .given .1)
+
+judge-requires-2 : tie.Need-judge-requires-2
+judge-requires-2 c κs = convert-clear _ _ _ _ _ _ _ (sym (c .before .before .before .before .before .before .check-convert .ensures) ∙ c .before .before .before .before .enum-told .given .1) .1 .0 .0
+
+returns-3 : tie.Need-returns-3
+unfolding convertCall
+returns-3 c =
+    let shut = rw (c .before .before .before .before .before .start .ensures) at (sym (c .before .before .before .judge .ensures) ∙ c .before .before .if1 .left) in
+    let opens = rw (c .before .before .before .before .start2 .ensures) at (sym (c .before .judge2 .ensures) ∙ c .if2 .taken) in
+    done-where _ _ _ _ _ shut opens
+    ∙ allowed _ _ (c .before .before .before .before .before .before .before .before .check-convert .ensures) (c .before .before .before .before .before .before .enum-told .given .1)
+
+returns-4 : tie.Need-returns-4
+unfolding convertCall
+returns-4 c =
+    let shut = rw (c .before .before .before .before .before .start .ensures) at (sym (c .before .before .before .judge .ensures) ∙ c .before .before .if1 .left) in
+    let shut-too = rw (c .before .before .before .before .start2 .ensures) at (sym (c .before .judge2 .ensures) ∙ c .if2 .left) in
+    neither-where _ _ _ _ _ shut shut-too
+    ∙ allowed _ _ (c .before .before .before .before .before .before .before .before .check-convert .ensures) (c .before .before .before .before .before .before .enum-told .given .1)
+
+pub convert-spec : {M : Type 1} → statement M
+convert-spec =
+    tie.close
+    (tie.spec
+    check-convert-requires
+    enum-known-found
+    returns
+    enum-told
+    start-requires
+    start-requires-2
+    judge-requires
+    reseal-requires
+    same-length
+    returns-2
+    judge-requires-2
+    returns-3
+    returns-4)

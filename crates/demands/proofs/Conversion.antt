@@ -1,0 +1,182 @@
+-- Convert does what card 5 says, over the calls that seal and open. Assumes nothing.
+use mathlib.Core.Path.{_≡_, refl, sym, ap, _∙_, subst}
+use mathlib.Core.Bool.{Bool, true, false, true≢false}
+use mathlib.Core.List.{List, _++_}
+use Prim.Native.Nat.{ℕ, _+_, _-_, _≤_}
+use native.Mathlib.Omega.{arith}
+use lib.ListN.{length, take, drop}
+use lib.Seq.{take-at}
+use Rattle.words.specs.Sequence.{zeros}
+use Rattle.answers.specs.Answers.{valueOf, room, checked}
+use Rattle.answers.proofs.Values.{isDone, passed-on}
+use Rattle.answers.specs.declared.Ground.{Ground}
+use Rattle.answers.specs.declared.Ground.the-variants.{TagDiffers, DoneAlready}
+use Rattle.answers.specs.declared.Check.{Check}
+use Rattle.answers.specs.declared.Check.the-variants.{Clear, Fails}
+use Rattle.answers.specs.declared.Answer.{Answer}
+use Rattle.answers.specs.declared.Answer.the-variants.{Done, Refused}
+use Rattle.mem.specs.Mem.{startOf, oldStartOf}
+use Rattle.mem.proofs.Laws.{start-block, old-start-block}
+use Rattle.blockplan.specs.Parcel.{Mode, parcelOf, messageOf, genuine}
+use Rattle.blockplan.proofs.Parcels.{parcel-long, parcel-message, parcel-genuine}
+use Rattle.checks.specs.Checks.{sealChecks, convertChecks}
+use Rattle.checks.proofs.Clears.{seal-after, open-after}
+use Rattle.modes.specs.Modes.{modeOf}
+use Rattle.sealing.specs.Sealing.{sealFrom, openFrom, sealCall, openCall, openOldCall}
+use Rattle.converting.specs.Converting.{converted, convertCall}
+use Rattle.converting.proofs.Answered.{converted-where, done-where, neither-where}
+use Rattle.demands.specs.Demand2.{Sealable, Openable, Seals, Opens}
+use Rattle.demands.specs.Conversion.{SealsAgain, HandsOver, ShutToOld, ShutToNew, Declines, Conversion}
+use Rattle.demands.proofs.Demand2.{length-zeros, roomy, Blocks, m, law, seals, inputs, long, opens, refuses, message-is, law-there, parcel-is, one-parcel, parcel-opens}
+
+-- ---- a parcel that opens is genuine, and holds that message
+
+module _ (start : ℕ → List ℕ → List ℕ → List ℕ) (is-block : Blocks start) (mode rounds : ℕ) (key nonce header parcel : List ℕ)
+    (𝓟 : Openable mode rounds key nonce header parcel) where
+  abbrev here : Mode
+  here = m start is-block mode rounds key nonce header
+
+  -- an output with room for that message and for the parcel's own
+  abbrev wide : List ℕ → List ℕ
+  wide message = zeros (length message + length parcel)
+
+  by-tag : (message : List ℕ) → Opens (openFrom start) mode rounds key nonce header parcel message → (t : Bool) → genuine here header parcel ≡ t
+      → (genuine here header parcel ≡ true) × (messageOf here parcel ≡ message)
+  by-tag message o true e =
+      let out = wide message in
+      let held = messageOf here parcel in
+      let far : length held ≡ length parcel - 32 = long start is-block mode rounds key nonce header parcel 𝓟 in
+      let alike = sym (opens start is-block mode rounds key nonce header parcel 𝓟 e out (omega (arith, length-zeros (length message + length parcel), far)))
+      ∙ o out (omega (arith, length-zeros (length message + length parcel))) in
+      let same : length held ≡ length message = ap (λ (r : Answer × List ℕ). valueOf (r .0)) alike in (
+        e,
+        sym (take-at held (drop (length held) out) (length held) refl) ∙ ap (λ (r : Answer × List ℕ). take (length held) (r .1)) alike
+            ∙ take-at message (drop (length message) out) (length held) (sym same),
+      )
+  by-tag message o false e =
+      let out = wide message in
+      absurd (true≢false (ap (λ (r : Answer × List ℕ). isDone (r .0))
+      (sym (o out (omega (arith, length-zeros (length message + length parcel))))
+      ∙ refuses start is-block mode rounds key nonce header parcel 𝓟 e out (omega (arith, length-zeros (length message + length parcel))))))
+
+  opened-is : (message : List ℕ) → Opens (openFrom start) mode rounds key nonce header parcel message
+      → (genuine here header parcel ≡ true) × (messageOf here parcel ≡ message)
+  opened-is message o = by-tag message o _ refl
+
+  -- and one of which no message comes is not genuine
+  shut-is : ((message : List ℕ) → Opens (openFrom start) mode rounds key nonce header parcel message → ⊥) → genuine here header parcel ≡ false
+  shut-is shut = decided _ refl
+    where
+      decided : (t : Bool) → genuine here header parcel ≡ t → genuine here header parcel ≡ false
+      decided true e = absurd (shut (messageOf here parcel) (opens start is-block mode rounds key nonce header parcel 𝓟 e))
+      decided false e = e
+
+-- ---- what convert answers
+
+module _ (mode rounds : ℕ) (key nonce header : List ℕ) where
+  -- the mode under each start
+  abbrev old : Mode
+  old = m oldStartOf old-start-block mode rounds key nonce header
+
+  abbrev new : Mode
+  new = m startOf start-block mode rounds key nonce header
+
+  module _ (parcel : List ℕ) (𝓟 : Openable mode rounds key nonce header parcel) where
+    -- where open refuses on no ground but 9, the room decides first
+    answers : (out : List ℕ) → convertCall mode rounds key nonce header parcel out ≡ checked (room (length parcel) (length out) Clear) out (converted old new header parcel out)
+    unfolding m convertCall convertChecks
+    answers out = rw (passed-on _ _ (open-after _ _ _ _ _ _ (room (length parcel) (length out) Clear)) (𝓟 .clear))
+
+    judged : (out : List ℕ) → length parcel ≤ length out → convertCall mode rounds key nonce header parcel out ≡ converted old new header parcel out
+    unfolding checked
+    judged out h = answers out ∙ rw (roomy (length parcel) (length out) h)
+
+    -- the parcel's message is sealed again
+    again : genuine old header parcel ≡ true → SealsAgain mode rounds key nonce header parcel (messageOf old parcel)
+    unfolding m sealCall sealFrom sealChecks
+    again e out =
+        let held = messageOf old parcel in
+        let sealable = message-is oldStartOf old-start-block mode rounds key nonce header parcel 𝓟 in
+        let far : length held ≡ length parcel - 32 = long oldStartOf old-start-block mode rounds key nonce header parcel 𝓟 in
+        let wide : 32 ≤ length parcel = inputs oldStartOf old-start-block mode rounds key nonce header parcel 𝓟 .0 in
+        let same : length held + 32 ≡ length parcel = omega (arith, far, wide) in
+        answers out ∙ rw (passed-on _ _ (seal-after _ _ _ _ _ _ (room (length held + 32) (length out) Clear)) (sealable .clear), same)
+        (ap (checked (room (length parcel) (length out) Clear) out) (sym (converted-where old new header parcel out _ e refl)))
+
+    converts : (message : List ℕ) → Opens openOldCall mode rounds key nonce header parcel message → SealsAgain mode rounds key nonce header parcel message
+    unfolding openOldCall
+    converts message o =
+        let held = opened-is oldStartOf old-start-block mode rounds key nonce header parcel 𝓟 message o in
+        subst (SealsAgain mode rounds key nonce header parcel) (held .1) (again (held .0))
+
+    shut-to-old : ShutToOld mode rounds key nonce header parcel → genuine old header parcel ≡ false
+    unfolding openOldCall
+    shut-to-old shut = shut-is oldStartOf old-start-block mode rounds key nonce header parcel 𝓟 shut
+
+    done-already : (message : List ℕ) → ShutToOld mode rounds key nonce header parcel → Opens openCall mode rounds key nonce header parcel message
+        → Declines mode rounds key nonce header DoneAlready parcel
+    unfolding openCall
+    done-already message shut o out h =
+        judged out h
+        ∙ sym (done-where old new header parcel out (shut-to-old shut) (opened-is startOf start-block mode rounds key nonce header parcel 𝓟 message o .0))
+
+    neither : ShutToOld mode rounds key nonce header parcel → ShutToNew mode rounds key nonce header parcel → Declines mode rounds key nonce header TagDiffers parcel
+    unfolding openCall
+    neither shut shut-too out h =
+        judged out h
+        ∙ sym (neither-where old new header parcel out (shut-to-old shut) (shut-is startOf start-block mode rounds key nonce header parcel 𝓟 shut-too))
+
+  -- ---- what the old start's sealing made
+
+  module _ (message parcel : List ℕ) (𝓜 : Sealable mode rounds key nonce header message) (s : Seals (sealFrom oldStartOf) mode rounds key nonce header message parcel) where
+    is : parcel ≡ parcelOf old header message
+    is = one-parcel oldStartOf old-start-block mode rounds key nonce header message 𝓜 parcel s
+
+    openable : Openable mode rounds key nonce header parcel
+    openable = subst (Openable mode rounds key nonce header) (sym is) (parcel-is oldStartOf old-start-block mode rounds key nonce header message 𝓜)
+
+    seals-again : SealsAgain mode rounds key nonce header parcel message
+    unfolding openOldCall
+    seals-again =
+        converts parcel openable message
+        (subst (λ (p : List ℕ). Opens (openFrom oldStartOf) mode rounds key nonce header p message) (sym is) (parcel-opens oldStartOf old-start-block mode rounds key nonce header message 𝓜))
+
+    hands-over : HandsOver mode rounds key nonce header parcel message
+    unfolding sealCall openCall
+    hands-over =
+        let fresh = parcelOf new header message in
+        let law-old = law-there oldStartOf old-start-block mode rounds key nonce header message 𝓜 in
+        let law-new = law-there startOf start-block mode rounds key nonce header message 𝓜 in
+        let far : length parcel ≡ length message + 32 = ap length is ∙ parcel-long old law-old header message in (
+          fresh,
+          parcel-long new law-new header message ∙ sym far,
+          (λ out h. seals-again out ∙ rw far (seals startOf start-block mode rounds key nonce header message 𝓜 out (omega (arith, far)))),
+          parcel-opens startOf start-block mode rounds key nonce header message 𝓜,
+        )
+
+-- ---- a refusal changes nothing
+
+-- convert's work and its checks, where each leaves the output as it was
+ways-unchanged : (old new : Mode) (header parcel out : List ℕ) (g : Ground) (at : ℕ) (s t : Bool) → genuine old header parcel ≡ s → genuine new header parcel ≡ t
+    → converted old new header parcel out .0 ≡ Refused g at → converted old new header parcel out .1 ≡ out
+ways-unchanged old new header parcel out g at true t e q r =
+    absurd (true≢false (ap isDone (ap (λ (x : Answer × List ℕ). x .0) (converted-where old new header parcel out _ e refl) ∙ r)))
+ways-unchanged old new header parcel out g at false true e q r = sym (ap (λ (x : Answer × List ℕ). x .1) (done-where old new header parcel out e q))
+ways-unchanged old new header parcel out g at false false e q r = sym (ap (λ (x : Answer × List ℕ). x .1) (neither-where old new header parcel out e q))
+
+checked-unchanged : (c : Check) (out : List ℕ) (r : Answer × List ℕ) (g : Ground) (at : ℕ) → (r .0 ≡ Refused g at → r .1 ≡ out)
+    → checked c out r .0 ≡ Refused g at → checked c out r .1 ≡ out
+unfolding checked
+checked-unchanged Clear out r g at h e = h e
+checked-unchanged (Fails k p) out r g at h e = refl
+
+pub conversion : Conversion
+unfolding convertCall
+conversion = record {
+  carries-over = λ mode rounds key nonce header message parcel 𝓜 s.
+      (seals-again mode rounds key nonce header message parcel 𝓜 s, hands-over mode rounds key nonce header message parcel 𝓜 s);
+  converts = λ mode rounds key nonce header parcel message 𝓟 o. converts mode rounds key nonce header parcel 𝓟 message o;
+  done-already = λ mode rounds key nonce header parcel message 𝓟 shut o. done-already mode rounds key nonce header parcel 𝓟 message shut o;
+  neither = λ mode rounds key nonce header parcel 𝓟 shut shut-too. neither mode rounds key nonce header parcel 𝓟 shut shut-too;
+  unchanged = λ mode rounds key nonce header parcel out g at e. checked-unchanged _ out _ g at (ways-unchanged _ _ header parcel out g at _ _ refl refl) e;
+}

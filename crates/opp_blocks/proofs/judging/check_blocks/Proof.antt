@@ -1,0 +1,76 @@
+-- One block more in each turn. Assumes nothing.
+use mathlib.Core.Bool.{true}
+use native.Mathlib.Omega.{arith}
+use lib.ListN.{length, length-drop}
+use denote.Ref.{now}
+use Rattle.words.proofs.Lists.{tailPart}
+use Rattle.blockplan.proofs.Summing.{Summing, summing-none, summing-more, summing-done}
+use borrow.Author.Needs.{needs}
+use Rattle.opp_blocks.proofs.judging.check_blocks.Statement.{statement}
+use Rattle.opp_blocks.proofs.judging.check_blocks.Tie as tie
+
+abbrev Inv-loop : tie.InvT-loop
+Inv-loop rounds s rest₀ sum₀ mask₀ rest sum mask = Summing true rounds mask₀ s rest sum mask
+
+abbrev μ-loop : tie.MeasureT-loop
+μ-loop rounds s rest₀ sum₀ mask₀ rest sum mask = length rest
+
+zero-requires : tie.Need-zero-requires Inv-loop μ-loop
+zero-requires c κs = search needs
+
+loop-holds : tie.Need-loop-holds Inv-loop μ-loop
+loop-holds c = summing-none true _ _ _ _ (c .zero .ensures)
+
+load-requires : tie.Need-load-requires Inv-loop μ-loop
+load-requires c κs = search needs
+
+decipher-requires : tie.Need-decipher-requires Inv-loop μ-loop
+decipher-requires c κs = search needs
+
+xor-requires : tie.Need-xor-requires Inv-loop μ-loop
+xor-requires c κs = search needs
+
+alpha-requires : tie.Need-alpha-requires Inv-loop μ-loop
+alpha-requires c κs = search needs
+
+sub-rest : tie.Need-sub-rest Inv-loop μ-loop
+sub-rest c = search needs
+
+part-rest-start : tie.Need-part-rest-start Inv-loop μ-loop
+part-rest-start c = search needs
+
+part-rest-end : tie.Need-part-rest-end Inv-loop μ-loop
+part-rest-end c = search needs
+
+loop-less : tie.Need-loop-less Inv-loop μ-loop
+loop-less c = simp (tailPart, length-drop) (omega arith)
+
+loop-again : tie.Need-loop-again Inv-loop μ-loop
+loop-again c =
+    let at = c .before .before .before .before .before .before .loop in
+    summing-more true _ _ _ (now (at .rest)) (at .sum) (at .mask) (at .inv) _ _ (omega arith)
+    (rw (c .before .before .xor .ensures, c .before .before .before .decipher .ensures, c .before .before .before .before .load .ensures)) (c .before .alpha .ensures)
+
+returns : tie.Need-returns Inv-loop μ-loop
+returns c =
+    let at = c .before .loop in
+    summing-done true _ _ _ (now (at .rest)) (at .sum) (at .mask) (at .inv) (omega arith)
+
+pub check-blocks-spec : {M : Type 1} → statement M
+check-blocks-spec =
+    tie.close
+    (tie.spec
+    Inv-loop
+    μ-loop
+    zero-requires
+    loop-holds
+    load-requires
+    decipher-requires
+    xor-requires
+    alpha-requires
+    sub-rest
+    part-rest-start
+    part-rest-end
+    loop-less
+    loop-again
+    returns)
