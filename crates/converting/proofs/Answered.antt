@@ -1,6 +1,6 @@
 -- What convert answers where the parcel opens under the old start, under the new one alone, and under neither, and that it is small. Assumes nothing.
-use mathlib.Core.Path.{_≡_, sym, ap, ap₂, _∙_}
-use mathlib.Core.Bool.{Bool, true, false, cond}
+use mathlib.Core.Path.{_≡_, sym, ap, _∙_}
+use mathlib.Core.Bool.{Bool, true, false}
 use mathlib.Core.List.{List, _++_}
 use Prim.Native.Nat.{ℕ, _^_, _<_}
 use native.Mathlib.Omega.{arith}
@@ -14,7 +14,15 @@ use Rattle.answers.specs.declared.Ground.the-variants.{TagDiffers, DoneAlready}
 use Rattle.answers.proofs.Values.{checked-lt}
 use Rattle.blockplan.specs.Parcel.{Mode, parcelOf, messageOf, genuine}
 use Rattle.checks.proofs.Clears.{convert-clear, convert-place}
+use Rattle.modes.specs.Modes.{modeOf}
 use Rattle.converting.specs.Converting.{converted, convertCall}
+
+-- ---- the judgement under a start
+
+-- what was judged over a start's block holds over the start
+pub judged : (mode rounds : ℕ) (header parcel : List ℕ) {block start : List ℕ} {right verdict : Bool} → block ≡ start
+    → right ≡ genuine (modeOf mode rounds block) header parcel → right ≡ verdict → genuine (modeOf mode rounds start) header parcel ≡ verdict
+judged mode rounds header parcel b e q = ap (λ (s : List ℕ). genuine (modeOf mode rounds s) header parcel) (sym b) ∙ sym e ∙ q
 
 -- ---- the three ways
 

@@ -1,6 +1,12 @@
 -- The message's sum, and the tag from it. Assumes nothing.
-use mathlib.Core.Path.{refl, _∙_}
+use mathlib.Core.Path.{refl, ap, _∙_}
+use mathlib.Core.Bool.{false}
+use mathlib.Core.List.{List}
+use Prim.Native.Nat.{ℕ}
 use Rattle.words.proofs.Arrays.{array-block}
+use Rattle.blockplan.specs.Plan.{xorOver}
+use Rattle.blockplan.specs.Pass.{madeAt, under, stepping}
+use Rattle.mro.specs.Mro.{blocks}
 use Rattle.mro.proofs.Absorbed.{tag-block-is}
 use denote.Ref.{now}
 use borrow.Author.Needs.{needs}
@@ -20,9 +26,10 @@ returns : tie.Need-returns
 returns c =
     let start = c .before .before .before .before .before in
     let a = start .args in
-    let sum = c .before .absorb-all in
-    c .tag-from .ensures
-    ∙ tag-block-is (a .rounds) (a .start) (now (a .header)) (now (a .message)) (sum .result) _ (array-block _ _ (start .good .0)) (rw (c .before .before .beta .ensures) at (sum .ensures)) refl
+    let message = now (a .message) in
+    let sum = c .before .absorb-all .ensures
+    ∙ ap (λ (b : List ℕ). xorOver (madeAt (under false (a .rounds) (stepping b)) message) (blocks message)) (c .before .before .beta .ensures) in
+    c .tag-from .ensures ∙ tag-block-is (a .rounds) (a .start) (now (a .header)) message _ _ (array-block _ _ (start .good .0)) sum refl
 
 pub tag-block-spec : {M : Type 1} → statement M
 tag-block-spec = tie.close (tie.spec beta-requires absorb-all-requires tag-from-requires returns)
