@@ -1,4 +1,4 @@
--- The bench sheet's cases that are proved, P1 to P11 and the limits of the checks, and rows of the cards, as rows of one table (document 01, "Bench sheet"; document 02, cards 1, 2 and 4). Assumes nothing.
+-- The bench sheet's cases that are proved, P1 to P11 and the limits of the checks, and rows of the cards, as rows of one table (document 01, "Bench sheet"; document 02, cards 1, 2, 4 and 5). Assumes nothing.
 use mathlib.Core.Path.{_≡_}
 use mathlib.Core.List.{List, [], _∷_, _++_}
 use Prim.Native.Nat.{ℕ, suc, _+_, _<_}
@@ -18,8 +18,9 @@ use Rattle.answers.specs.Answers.{groundNumber, numberOf, valueOf}
 use Rattle.answers.specs.declared.Check.{Check}
 use Rattle.answers.specs.declared.Check.the-variants.{Clear, Fails}
 use Rattle.answers.specs.declared.Answer.{Answer}
-use Rattle.checks.specs.Checks.{sealChecks, openChecks}
+use Rattle.checks.specs.Checks.{sealChecks, openChecks, convertChecks}
 use Rattle.sealing.specs.Sealing.{sealCall, openCall, openOldCall}
+use Rattle.converting.specs.Converting.{convertCall}
 use Rattle.walking.specs.Walking.{walkChecks, jumpChecks}
 use Rattle.cells.specs.Cells.{free}
 use Rattle.cells.specs.Changes.{fresh, filled, emptied}
@@ -85,6 +86,10 @@ oldOpp = tag 0x71fdb03dd1b2e91e 0x8058ed009340cf93 0xe069c35c13e7debe 0x514c91cc
 unfoldable pub oldMro : List ℕ
 oldMro = tag 0x06e87aeac9a18b13 0x8300ddbf924add88 0x5d333aa04a2b9dfb 0x0d2d029c95658f13
 
+-- that of the empty message with zero key and nonce, MRO with four rounds, from card 4's start; no passage of documents 01 and 02
+unfoldable pub newMro : List ℕ
+newMro = tag 0x1802b346e068fc82 0x82aad085481337eb 0xf36f7b664cdc81b1 0x7bc30c42aabf07b6
+
 -- the parcel of a message with zero key and nonce and an empty header, over the section 4 start
 unfoldable pub sealedOld : ℕ → ℕ → List ℕ → List ℕ
 sealedOld mode rounds message = parcelOf (modeOf mode rounds (oldStartOf rounds (zeros 32) (zeros 16))) [] message
@@ -106,8 +111,8 @@ paid means = record { machine = 7; sale = 1; tail = zeros 8; amount = 150; colum
 unfoldable pub taken : ℕ → ℕ → List ℕ
 taken machine sale = lowBytes 4 machine ++ (lowBytes 4 sale ++ zeros 53)
 
--- the lines P1 to P11, of which P10 and P11 over the section 4 start; card 4's start before P, for each allowed count, and what is sealed from it; maskwalk's example with
--- "g", P with twelve rounds, and the limits that the checks keep, those of card 2 too; then rows of the sale store (document 02, card 1)
+-- the lines P1 to P11, of which P10 and P11 over the section 4 start; card 4's start before P, for each allowed count, and what is sealed from it; card 5's converter;
+-- maskwalk's example with "g", P with twelve rounds, and the limits that the checks keep, those of card 2 too; then rows of the sale store (document 02, card 1)
 unfoldable pub table : List Row
 table =
     record { got = g 1 0 0 0; want = 0x101 ∷ 0x0202000200020200 ∷ 0x0101000100010000 ∷ 0x0101000000010000 ∷ [] }  -- P1
@@ -133,6 +138,11 @@ table =
     ∷ record { got = startBlock 8 sampleKey sampleNonce; want = sampleWords 8 256 }
     ∷ record { got = startBlock 12 sampleKey sampleNonce; want = sampleWords 12 256 }
     ∷ record { got = oldStartBlock sampleKey sampleNonce; want = sampleWords 0 0 }  -- section 4's
+    ∷ record { got = convertCall 2 4 (zeros 32) (zeros 16) [] (zeros 32) (zeros 33) .1; want = newMro ++ (0 ∷ []) }  -- P10's MRO parcel converted (document 02, card 5)
+    ∷ record { got = answered (convertCall 1 4 (zeros 32) (zeros 16) [] (zeros 32) (zeros 32)); want = 0 ∷ 32 ∷ [] }  -- what is answered for OPP's
+    ∷ record { got = answered (convertCall 2 4 (zeros 32) (zeros 16) [] newMro (zeros 32)); want = 17 ∷ 0 ∷ [] }  -- the new parcel is done already
+    ∷ record { got = convertCall 2 4 (zeros 32) (zeros 16) [] (1 ∷ zeros 31) (zeros 31 ++ (5 ∷ [])) .1; want = zeros 31 ++ (5 ∷ []) }  -- one of neither start, which changes no byte
+    ∷ record { got = answered (convertCall 2 4 (zeros 32) (zeros 16) [] (1 ∷ zeros 31) (zeros 32)); want = 9 ∷ 0 ∷ [] }
     ∷ record {
       got = sealCall 1 12 sampleKey sampleNonce [] [] (zeros 32) .1;
       want = tag 0xcb215bd593499c3f 0xb73a4e61a980aa54 0xeb5ddc07390000b6 0x91a1a84f27e1fd0b;
@@ -155,6 +165,8 @@ table =
     ∷ record { got = found (sealChecks 1 4 32 16 0 128 159); want = 7 ∷ 0 ∷ [] }  -- output 159 for a message of 128
     ∷ record { got = found (openChecks 1 4 32 16 0 31 0); want = 8 ∷ 0 ∷ [] }  -- parcel of 31 bytes, and of 32
     ∷ record { got = found (openChecks 2 6 32 16 0 32 0); want = 0 ∷ 0 ∷ [] }
+    ∷ record { got = found (convertChecks 1 4 32 16 0 160 159); want = 7 ∷ 0 ∷ [] }  -- convert: output 159 for a parcel of 160
+    ∷ record { got = found (convertChecks 1 4 32 16 0 160 160); want = 0 ∷ 0 ∷ [] }
     ∷ record { got = found (jumpChecks 128 (pos 65536) (negsuc 65535) (pos 0) 128); want = 0 ∷ 0 ∷ [] }  -- net counts 65,536 and -65,536
     ∷ record { got = found (jumpChecks 128 (pos 0) (pos 65537) (pos 0) 128); want = 11 ∷ 0 ∷ [] }
     ∷ record { got = found (walkChecks 128 (1 ∷ 7 ∷ 0 ∷ []) 128); want = 12 ∷ 1 ∷ [] }  -- steps 1, 7, 0

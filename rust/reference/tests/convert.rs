@@ -91,6 +91,19 @@ fn p10_and_p11_are_old_parcels() {
     }
 }
 
+/// The row of the table of known answers that has converted bytes.
+#[test]
+fn p10_becomes_the_parcel_of_the_table_of_known_answers() {
+    let mut parcel = [BEFORE; 32];
+    let inputs: [&[u8]; 4] = [&[0; 32], &[0; 16], &[], &[0; 32]];
+    assert_eq!(convert(MRO, 4, inputs, &mut parcel), Ok(32));
+    let parcel: String = parcel.iter().map(|byte| format!("{byte:02x}")).collect();
+    assert_eq!(
+        parcel,
+        "82fc68e046b30218eb37134885d0aa82b181dc4c667b6ff3b607bfaa420cc37b"
+    );
+}
+
 #[test]
 fn a_new_parcel_is_done_already() {
     for (mode, rounds) in settings() {
