@@ -1,4 +1,3 @@
 pub mod Absorbed
 pub mod Streams
 pub mod Opened
-pub mod Judged

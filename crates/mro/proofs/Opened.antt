@@ -5,12 +5,11 @@ use Prim.Native.Nat.{ℕ}
 use Rattle.words.specs.Block.{Bytes}
 use Rattle.mem.proofs.Laws.{xor-undo}
 use Rattle.blockplan.specs.Plan.{ciphered}
-use Rattle.blockplan.specs.Parcel.{messageOf, cipherPart, tagPart}
 use Rattle.blockplan.specs.Lawful.{Lawful}
 use Rattle.blockplan.proofs.Tags.{length-tagBytes, bytes-tagBytes}
-use Rattle.blockplan.proofs.Ciphered.{length-ciphered, whole-ciphered, hasLeft-ciphered, bytes-ciphered, ciphered-undo}
+use Rattle.blockplan.proofs.Ciphered.{length-ciphered, bytes-ciphered, ciphered-undo}
 use Rattle.mro.proofs.Streams.{xored, formed, formed-block, xored-formed}
-use Rattle.mro.specs.Mro.{blocks, mroTag, mroStream, streamed, mroCipher, mroMode}
+use Rattle.mro.specs.Mro.{mroTag, mroStream, streamed, mroCipher, mroMode}
 
 xored-back : (k : ℕ → List ℕ) (s : List ℕ) → Bytes s → ciphered (xored k) k (ciphered (xored k) k s) ≡ s
 unfolding xored
@@ -32,11 +31,3 @@ mro-lawful rounds start = record {
     forth-back = xored-back (mroStream rounds start tag);
   };
 }
-
--- a parcel's message has as many blocks as its ciphertext
-pub blocks-message : (rounds : ℕ) (start parcel : List ℕ) → blocks (messageOf (mroMode rounds start) parcel) ≡ blocks (cipherPart parcel)
-unfolding blocks messageOf mroMode mroCipher
-blocks-message rounds start parcel =
-    let f = streamed rounds start (tagPart parcel) in
-    let k = mroStream rounds start (tagPart parcel) in
-    rw (hasLeft-ciphered f k (cipherPart parcel), whole-ciphered f k (cipherPart parcel))

@@ -1,24 +1,19 @@
 // MRO over a start block and a round count: the tag of header and message, and the message under the
 // stream that the tag gives.
-use crate::judging::opened_tag;
-use crate::resealing::xor_streams;
 use crate::stream::load_tag;
 use crate::stream::xor_stream;
 use crate::sums::tag_block;
-use tags::agrees;
 use tags::store_tag;
 use tags::verify;
 ghost use mathlib.Core.Path.{_≡_};
 ghost use mathlib.Core.List.{_++_};
 ghost use Prim.Native.Nat.{_+_, _≤_};
 ghost use lib.ListN.{length, drop};
-ghost use Rattle.blockplan.specs.Parcel.{parcelOf, messageOf, genuine, opened};
+ghost use Rattle.blockplan.specs.Parcel.{parcelOf, opened};
 ghost use Rattle.mro.specs.Mro.{mroMode};
 
-mod judging;
-mod resealing;
-mod stream;
-mod sums;
+pub mod stream;
+pub mod sums;
 
 // The parcel to the front of the output: the ciphertext and then the tag.
 pub fn seal(start: [u64; 16], rounds: u32, header: &[u8], message: &[u8], out: &mut [u8])
@@ -41,31 +36,4 @@ pub fn open(start: [u64; 16], rounds: u32, header: &[u8], parcel: &[u8], out: &m
     xor_stream(&parcel[..n], tag, start, rounds, out);
     let expected = tag_block(start, rounds, header, &out[..n]);
     verify(expected, parcel, out)
-}
-
-// Whether the parcel is genuine, in one pass that writes nothing.
-pub fn judge(start: [u64; 16], rounds: u32, header: &[u8], parcel: &[u8]) -> bool
-    requires { ⌜ 32 ≤ length (now parcel) ⌝ }
-    ensures { λ r. ⌜ r ≡ genuine (mroMode rounds start) (now (header .entry)) (now (parcel .entry)) ⌝ }
-{
-    agrees(opened_tag(start, start, rounds, header, parcel), parcel)
-}
-
-// The parcel, under another start, of the message that this one holds.
-pub fn reseal(
-    from: [u64; 16],
-    to: [u64; 16],
-    rounds: u32,
-    header: &[u8],
-    parcel: &[u8],
-    out: &mut [u8],
-)
-    requires { ⌜ (32 ≤ length (now parcel)) × (length (now parcel) ≤ length (now out)) ⌝ }
-    ensures { λ _. ⌜ now (out .exit) ≡ parcelOf (mroMode rounds to) (now (header .entry)) (messageOf (mroMode rounds from) (now (parcel .entry))) ++ drop (length (now (parcel .entry))) (now (out .entry)) ⌝ }
-{
-    let n = parcel.len() - 32;
-    let old_tag = load_tag(&parcel[n..]);
-    let new_tag = opened_tag(from, to, rounds, header, parcel);
-    xor_streams(&parcel[..n], old_tag, from, new_tag, to, rounds, out);
-    store_tag(new_tag, &mut out[n..]);
 }

@@ -1,4 +1,2 @@
 pub mod Passes
 pub mod Opened
-pub mod Judged
-pub mod Resealed

@@ -1,23 +1,18 @@
 // OPP over a start block and a round count: one pass over the message, whose masks step on from
 // block to block.
-use crate::judging::check;
 use crate::message::pass;
-use crate::resealing::reseal_all;
 use crate::tag::tag_block;
-use tags::agrees;
 use tags::store_tag;
 use tags::verify;
 ghost use mathlib.Core.Path.{_≡_};
 ghost use mathlib.Core.List.{_++_};
 ghost use Prim.Native.Nat.{_+_, _≤_};
 ghost use lib.ListN.{length, drop};
-ghost use Rattle.blockplan.specs.Parcel.{parcelOf, messageOf, genuine, opened};
+ghost use Rattle.blockplan.specs.Parcel.{parcelOf, opened};
 ghost use Rattle.opp.specs.Opp.{oppMode};
 
-mod judging;
-mod message;
-mod resealing;
-mod tag;
+pub mod message;
+pub mod tag;
 
 // The parcel to the front of the output: the ciphertext and then the tag.
 pub fn seal(start: [u64; 16], rounds: u32, header: &[u8], message: &[u8], out: &mut [u8])
@@ -37,31 +32,4 @@ pub fn open(start: [u64; 16], rounds: u32, header: &[u8], parcel: &[u8], out: &m
     let n = parcel.len() - 32;
     let passed = pass(start, rounds, &parcel[..n], true, out);
     verify(tag_block(start, rounds, header, passed), parcel, out)
-}
-
-// Whether the parcel is genuine, in one pass that writes nothing.
-pub fn judge(start: [u64; 16], rounds: u32, header: &[u8], parcel: &[u8]) -> bool
-    requires { ⌜ 32 ≤ length (now parcel) ⌝ }
-    ensures { λ r. ⌜ r ≡ genuine (oppMode rounds start) (now (header .entry)) (now (parcel .entry)) ⌝ }
-{
-    let n = parcel.len() - 32;
-    let passed = check(start, rounds, &parcel[..n]);
-    agrees(tag_block(start, rounds, header, passed), parcel)
-}
-
-// The parcel, under another start, of the message that this one holds.
-pub fn reseal(
-    from: [u64; 16],
-    to: [u64; 16],
-    rounds: u32,
-    header: &[u8],
-    parcel: &[u8],
-    out: &mut [u8],
-)
-    requires { ⌜ (32 ≤ length (now parcel)) × (length (now parcel) ≤ length (now out)) ⌝ }
-    ensures { λ _. ⌜ now (out .exit) ≡ parcelOf (oppMode rounds to) (now (header .entry)) (messageOf (oppMode rounds from) (now (parcel .entry))) ++ drop (length (now (parcel .entry))) (now (out .entry)) ⌝ }
-{
-    let n = parcel.len() - 32;
-    let passed = reseal_all(from, to, rounds, &parcel[..n], out);
-    store_tag(tag_block(to, rounds, header, passed), &mut out[n..]);
 }
