@@ -235,9 +235,10 @@ uint64_t calmbaize_open_old(uint32_t mode, uint32_t rounds,
  * with the same settings.
  *
  * Success writes the new parcel of input_len bytes and answers that length. The
- * rest of the output is unchanged. It succeeds exactly where calmbaize_open_old()
- * opens the parcel, and the new one is what calmbaize_seal() writes for that
- * message under the same settings.
+ * rest of the output is unchanged. Given room, it succeeds exactly where
+ * calmbaize_open_old() opens the parcel, and the new one is what calmbaize_seal()
+ * writes for that message under the same settings. The output is another buffer
+ * than the parcel, as in every call.
  *
  * Refused, in this order, with 1, 2, 3, 4, 5, 8, 6, and 7 where the output is
  * shorter than the parcel; then, where calmbaize_open_old() does not open it, with

@@ -9,7 +9,9 @@
 set -eu
 
 rt=$(readlink -f "$(command -v rt)")
-home=$(cd "${RATTLE_HOME:-$(dirname "$rt")/..}" && pwd -P)
+home=${RATTLE_HOME:-$(dirname "$rt")/..}
+# Where that is such a folder already, the kit behind it.
+home=$(dirname "$(readlink -f "$home/KIT-ID")")
 own=on/$(uname -m)
 compiler=$own/toolchain/bin/clang
 if [ ! -x "$home/$compiler" ]; then

@@ -244,6 +244,9 @@ planted "a function that is not local" \
 planted "a table that is not local" \
     's/^static int allowed(/const uint8_t table[4] = {1, 2, 3, 4};\n&/' \
     "$root/tools/check-archive.sh" "$faulty"
+planted "the permutation left as a call" \
+    's/\bpermute(/permutation(/g; s/^static inline void permutation(/static __attribute__((noinline)) void permutation(/' \
+    "$root/tools/check-archive.sh" "$faulty"
 planted "a call under another name" \
     's/^uint64_t baseline_jump/uint64_t calmbaize_leap/' \
     "$root/tools/check-archive.sh" "$faulty"

@@ -21,7 +21,7 @@ isOneOf (k ∷ ks) n = eqb n k || isOneOf ks n
 unfoldable pub isRounds : ℕ → Bool
 isRounds rounds = isOneOf (4 ∷ 6 ∷ 8 ∷ 12 ∷ []) rounds
 
--- seal, open, first to fifth: mode, rounds, and the lengths of key, nonce and header; then the checks behind them
+-- seal, open, convert, first to fifth: mode, rounds, and the lengths of key, nonce and header; then the checks behind them
 unfoldable pub settings : ℕ → ℕ → ℕ → ℕ → ℕ → Check → Check
 settings mode rounds key nonce header next =
     line (not (isMode mode)) Mode
@@ -34,7 +34,7 @@ settings mode rounds key nonce header next =
 unfoldable pub sealInputs : ℕ → ℕ → ℕ → ℕ → ℕ → ℕ → Check → Check
 sealInputs mode rounds key nonce header message next = settings mode rounds key nonce header (line (ltb 65536 message) InputLength next)
 
--- open, sixth and seventh: the parcel's length; then the checks behind it
+-- open, convert, sixth and seventh: the parcel's length; then the checks behind it
 unfoldable pub openInputs : ℕ → ℕ → ℕ → ℕ → ℕ → ℕ → Check → Check
 openInputs mode rounds key nonce header parcel next =
     settings mode rounds key nonce header (line (ltb parcel 32) TagMissing (line (ltb 65568 parcel) InputLength next))

@@ -20,9 +20,9 @@ use Rattle.converting.specs.Converting.{converted, convertCall}
 -- ---- the judgement under a start
 
 -- what was judged over a start's block holds over the start
-pub judged : (mode rounds : ℕ) (header parcel : List ℕ) {block start : List ℕ} {right verdict : Bool} → block ≡ start
+pub genuine-under : (mode rounds : ℕ) (header parcel : List ℕ) {block start : List ℕ} {right verdict : Bool} → block ≡ start
     → right ≡ genuine (modeOf mode rounds block) header parcel → right ≡ verdict → genuine (modeOf mode rounds start) header parcel ≡ verdict
-judged mode rounds header parcel b e q = ap (λ (s : List ℕ). genuine (modeOf mode rounds s) header parcel) (sym b) ∙ sym e ∙ q
+genuine-under mode rounds header parcel b e q = ap (λ (s : List ℕ). genuine (modeOf mode rounds s) header parcel) (sym b) ∙ sym e ∙ q
 
 -- ---- the three ways
 

@@ -12,8 +12,8 @@ use Rattle.blockplan.specs.Parcel.{Mode, parcelOf, messageOf, genuine}
 use Rattle.checks.specs.Checks.{convertChecks}
 use Rattle.modes.specs.Modes.{modeOf}
 
--- where a parcel opens in the old mode, its message is sealed again in the new one, a parcel of the same length, and output beyond it is unchanged;
--- if not, and it opens in the new one, it is refused as done already; if neither, with 9. A refusal changes no output
+-- a mode under the old start and under the new one. If a parcel opens under the old start, its message is sealed again under the new one, in a parcel of the same
+-- length, and output beyond it is unchanged; if not, and it opens under the new start, it is refused as done already; if neither, with 9. A refusal changes no output
 unfoldable pub converted : Mode → Mode → List ℕ → List ℕ → List ℕ → Answer × List ℕ
 converted old new header parcel out =
     cond (genuine old header parcel) (Done (length parcel), parcelOf new header (messageOf old parcel) ++ drop (length parcel) out)

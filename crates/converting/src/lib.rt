@@ -1,5 +1,5 @@
-// Convert: the checks in document 01's order, then the parcel judged under both starts before a byte
-// is written.
+// Convert: the checks in document 01's order, then the parcel judged under the old start and, where it
+// does not open there, under the new one. Nothing is written before that.
 use answers::Answer;
 use answers::Check;
 use answers::Ground;

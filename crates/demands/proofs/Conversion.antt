@@ -26,15 +26,15 @@ use Rattle.sealing.specs.Sealing.{sealFrom, openFrom, sealCall, openCall, openO
 use Rattle.converting.specs.Converting.{converted, convertCall}
 use Rattle.converting.proofs.Answered.{converted-where, done-where, neither-where}
 use Rattle.demands.specs.Demand2.{Sealable, Openable, Seals, Opens}
-use Rattle.demands.specs.Conversion.{SealsAgain, HandsOver, ShutToOld, ShutToNew, Declines, Conversion}
-use Rattle.demands.proofs.Demand2.{length-zeros, roomy, Blocks, m, law, seals, inputs, long, opens, refuses, message-is, law-there, parcel-is, one-parcel, parcel-opens}
+use Rattle.demands.specs.Conversion.{SealsAgain, OpensConverted, Unopened, RefusesUnchanged, Conversion}
+use Rattle.demands.proofs.Demand2.{length-zeros, roomy, Blocks, modeUnder, law, seals, inputs, long, opens, refuses, message-is, law-there, parcel-is, one-parcel, parcel-opens}
 
 -- ---- a parcel that opens is genuine, and holds that message
 
 module _ (start : ℕ → List ℕ → List ℕ → List ℕ) (is-block : Blocks start) (mode rounds : ℕ) (key nonce header parcel : List ℕ)
     (𝓟 : Openable mode rounds key nonce header parcel) where
   abbrev here : Mode
-  here = m start is-block mode rounds key nonce header
+  here = modeUnder start is-block mode rounds key nonce header
 
   -- an output with room for that message and for the parcel's own
   abbrev wide : List ℕ → List ℕ
@@ -64,11 +64,11 @@ module _ (start : ℕ → List ℕ → List ℕ → List ℕ) (is-block : Blocks
   opened-is message o = by-tag message o _ refl
 
   -- and one of which no message comes is not genuine
-  shut-is : ((message : List ℕ) → Opens (openFrom start) mode rounds key nonce header parcel message → ⊥) → genuine here header parcel ≡ false
-  shut-is shut = decided _ refl
+  unopened-is : ((message : List ℕ) → Opens (openFrom start) mode rounds key nonce header parcel message → ⊥) → genuine here header parcel ≡ false
+  unopened-is unopened = decided _ refl
     where
       decided : (t : Bool) → genuine here header parcel ≡ t → genuine here header parcel ≡ false
-      decided true e = absurd (shut (messageOf here parcel) (opens start is-block mode rounds key nonce header parcel 𝓟 e))
+      decided true e = absurd (unopened (messageOf here parcel) (opens start is-block mode rounds key nonce header parcel 𝓟 e))
       decided false e = e
 
 -- ---- what convert answers
@@ -76,25 +76,25 @@ module _ (start : ℕ → List ℕ → List ℕ → List ℕ) (is-block : Blocks
 module _ (mode rounds : ℕ) (key nonce header : List ℕ) where
   -- the mode under each start
   abbrev old : Mode
-  old = m oldStartOf old-start-block mode rounds key nonce header
+  old = modeUnder oldStartOf old-start-block mode rounds key nonce header
 
   abbrev new : Mode
-  new = m startOf start-block mode rounds key nonce header
+  new = modeUnder startOf start-block mode rounds key nonce header
 
   module _ (parcel : List ℕ) (𝓟 : Openable mode rounds key nonce header parcel) where
     -- where open refuses on no ground but 9, the room decides first
     answers : (out : List ℕ) → convertCall mode rounds key nonce header parcel out ≡ checked (room (length parcel) (length out) Clear) out (converted old new header parcel out)
-    unfolding m convertCall convertChecks
+    unfolding modeUnder convertCall convertChecks
     answers out = rw (passed-on _ _ (open-after _ _ _ _ _ _ (room (length parcel) (length out) Clear)) (𝓟 .clear))
 
-    judged : (out : List ℕ) → length parcel ≤ length out → convertCall mode rounds key nonce header parcel out ≡ converted old new header parcel out
+    convert-is : (out : List ℕ) → length parcel ≤ length out → convertCall mode rounds key nonce header parcel out ≡ converted old new header parcel out
     unfolding checked
-    judged out h = answers out ∙ rw (roomy (length parcel) (length out) h)
+    convert-is out h = answers out ∙ rw (roomy (length parcel) (length out) h)
 
     -- the parcel's message is sealed again
-    again : genuine old header parcel ≡ true → SealsAgain mode rounds key nonce header parcel (messageOf old parcel)
-    unfolding m sealCall sealFrom sealChecks
-    again e out =
+    held-sealed-again : genuine old header parcel ≡ true → SealsAgain mode rounds key nonce header parcel (messageOf old parcel)
+    unfolding modeUnder sealCall sealFrom sealChecks
+    held-sealed-again e out =
         let held = messageOf old parcel in
         let sealable = message-is oldStartOf old-start-block mode rounds key nonce header parcel 𝓟 in
         let far : length held ≡ length parcel - 32 = long oldStartOf old-start-block mode rounds key nonce header parcel 𝓟 in
@@ -107,48 +107,48 @@ module _ (mode rounds : ℕ) (key nonce header : List ℕ) where
     unfolding openOldCall
     converts message o =
         let held = opened-is oldStartOf old-start-block mode rounds key nonce header parcel 𝓟 message o in
-        subst (SealsAgain mode rounds key nonce header parcel) (held .1) (again (held .0))
+        subst (SealsAgain mode rounds key nonce header parcel) (held .1) (held-sealed-again (held .0))
 
-    shut-to-old : ShutToOld mode rounds key nonce header parcel → genuine old header parcel ≡ false
+    not-genuine-old : Unopened mode rounds key nonce header openOldCall parcel → genuine old header parcel ≡ false
     unfolding openOldCall
-    shut-to-old shut = shut-is oldStartOf old-start-block mode rounds key nonce header parcel 𝓟 shut
+    not-genuine-old unopened = unopened-is oldStartOf old-start-block mode rounds key nonce header parcel 𝓟 unopened
 
-    done-already : (message : List ℕ) → ShutToOld mode rounds key nonce header parcel → Opens openCall mode rounds key nonce header parcel message
-        → Declines mode rounds key nonce header DoneAlready parcel
+    done-already : (message : List ℕ) → Unopened mode rounds key nonce header openOldCall parcel → Opens openCall mode rounds key nonce header parcel message
+        → RefusesUnchanged mode rounds key nonce header DoneAlready parcel
     unfolding openCall
-    done-already message shut o out h =
-        judged out h
-        ∙ sym (done-where old new header parcel out (shut-to-old shut) (opened-is startOf start-block mode rounds key nonce header parcel 𝓟 message o .0))
+    done-already message unopened o out h =
+        convert-is out h
+        ∙ sym (done-where old new header parcel out (not-genuine-old unopened) (opened-is startOf start-block mode rounds key nonce header parcel 𝓟 message o .0))
 
-    neither : ShutToOld mode rounds key nonce header parcel → ShutToNew mode rounds key nonce header parcel → Declines mode rounds key nonce header TagDiffers parcel
+    neither : Unopened mode rounds key nonce header openOldCall parcel → Unopened mode rounds key nonce header openCall parcel → RefusesUnchanged mode rounds key nonce header TagDiffers parcel
     unfolding openCall
-    neither shut shut-too out h =
-        judged out h
-        ∙ sym (neither-where old new header parcel out (shut-to-old shut) (shut-is startOf start-block mode rounds key nonce header parcel 𝓟 shut-too))
+    neither unopened unopened-new out h =
+        convert-is out h
+        ∙ sym (neither-where old new header parcel out (not-genuine-old unopened) (unopened-is startOf start-block mode rounds key nonce header parcel 𝓟 unopened-new))
 
   -- ---- what the old start's sealing made
 
   module _ (message parcel : List ℕ) (𝓜 : Sealable mode rounds key nonce header message) (s : Seals (sealFrom oldStartOf) mode rounds key nonce header message parcel) where
-    is : parcel ≡ parcelOf old header message
-    is = one-parcel oldStartOf old-start-block mode rounds key nonce header message 𝓜 parcel s
+    parcel-of-old : parcel ≡ parcelOf old header message
+    parcel-of-old = one-parcel oldStartOf old-start-block mode rounds key nonce header message 𝓜 parcel s
 
     openable : Openable mode rounds key nonce header parcel
-    openable = subst (Openable mode rounds key nonce header) (sym is) (parcel-is oldStartOf old-start-block mode rounds key nonce header message 𝓜)
+    openable = subst (Openable mode rounds key nonce header) (sym parcel-of-old) (parcel-is oldStartOf old-start-block mode rounds key nonce header message 𝓜)
 
     seals-again : SealsAgain mode rounds key nonce header parcel message
     unfolding openOldCall
     seals-again =
         converts parcel openable message
-        (subst (λ (p : List ℕ). Opens (openFrom oldStartOf) mode rounds key nonce header p message) (sym is) (parcel-opens oldStartOf old-start-block mode rounds key nonce header message 𝓜))
+        (subst (λ (p : List ℕ). Opens (openFrom oldStartOf) mode rounds key nonce header p message) (sym parcel-of-old) (parcel-opens oldStartOf old-start-block mode rounds key nonce header message 𝓜))
 
-    hands-over : HandsOver mode rounds key nonce header parcel message
+    opens-converted : OpensConverted mode rounds key nonce header parcel message
     unfolding sealCall openCall
-    hands-over =
-        let fresh = parcelOf new header message in
+    opens-converted =
+        let sealed = parcelOf new header message in
         let law-old = law-there oldStartOf old-start-block mode rounds key nonce header message 𝓜 in
         let law-new = law-there startOf start-block mode rounds key nonce header message 𝓜 in
-        let far : length parcel ≡ length message + 32 = ap length is ∙ parcel-long old law-old header message in (
-          fresh,
+        let far : length parcel ≡ length message + 32 = ap length parcel-of-old ∙ parcel-long old law-old header message in (
+          sealed,
           parcel-long new law-new header message ∙ sym far,
           (λ out h. seals-again out ∙ rw far (seals startOf start-block mode rounds key nonce header message 𝓜 out (omega (arith, far)))),
           parcel-opens startOf start-block mode rounds key nonce header message 𝓜,
@@ -173,10 +173,10 @@ checked-unchanged (Fails k p) out r g at h e = refl
 pub conversion : Conversion
 unfolding convertCall
 conversion = record {
-  carries-over = λ mode rounds key nonce header message parcel 𝓜 s.
-      (seals-again mode rounds key nonce header message parcel 𝓜 s, hands-over mode rounds key nonce header message parcel 𝓜 s);
+  converts-sealed = λ mode rounds key nonce header message parcel 𝓜 s.
+      (seals-again mode rounds key nonce header message parcel 𝓜 s, opens-converted mode rounds key nonce header message parcel 𝓜 s);
   converts = λ mode rounds key nonce header parcel message 𝓟 o. converts mode rounds key nonce header parcel 𝓟 message o;
-  done-already = λ mode rounds key nonce header parcel message 𝓟 shut o. done-already mode rounds key nonce header parcel 𝓟 message shut o;
-  neither = λ mode rounds key nonce header parcel 𝓟 shut shut-too. neither mode rounds key nonce header parcel 𝓟 shut shut-too;
+  done-already = λ mode rounds key nonce header parcel message 𝓟 unopened o. done-already mode rounds key nonce header parcel 𝓟 message unopened o;
+  neither = λ mode rounds key nonce header parcel 𝓟 unopened unopened-new. neither mode rounds key nonce header parcel 𝓟 unopened unopened-new;
   unchanged = λ mode rounds key nonce header parcel out g at e. checked-unchanged _ out _ g at (ways-unchanged _ _ header parcel out g at _ _ refl refl) e;
 }

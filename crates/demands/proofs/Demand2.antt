@@ -40,92 +40,92 @@ abbrev pub Blocks : (ℕ → List ℕ → List ℕ → List ℕ) → Type 0
 Blocks start = (rounds : ℕ) (key nonce : List ℕ) → Bytes key → Bytes nonce → Block (start rounds key nonce)
 
 module _ (start : ℕ → List ℕ → List ℕ → List ℕ) (is-block : Blocks start) (mode rounds : ℕ) (key nonce header : List ℕ) where
-  unfoldable pub m : Mode
-  m = modeOf mode rounds (start rounds key nonce)
+  unfoldable pub modeUnder : Mode
+  modeUnder = modeOf mode rounds (start rounds key nonce)
 
   -- the mode is lawful for every round count: the allowed ones play no part
-  pub law : Bytes key → Bytes nonce → Lawful m
-  unfolding m
+  pub law : Bytes key → Bytes nonce → Lawful modeUnder
+  unfolding modeUnder
   law hk hn = mode-lawful mode rounds (start rounds key nonce) (is-block rounds key nonce hk hn)
 
-  pub seals : (message : List ℕ) → Sealable mode rounds key nonce header message → Seals (sealFrom start) mode rounds key nonce header message (parcelOf m header message)
-  unfolding m sealFrom sealChecks checked
+  pub seals : (message : List ℕ) → Sealable mode rounds key nonce header message → Seals (sealFrom start) mode rounds key nonce header message (parcelOf modeUnder header message)
+  unfolding modeUnder sealFrom sealChecks checked
   seals message 𝓜 out h = rw (passed-on _ _ (seal-after _ _ _ _ _ _ (room (length message + 32) (length out) Clear)) (𝓜 .clear), roomy (length message + 32) (length out) h)
 
   module _ (parcel : List ℕ) (𝓟 : Openable mode rounds key nonce header parcel) where
     pub inputs : (32 ≤ length parcel) × (length parcel ≤ 65568)
     inputs = open-inputs _ _ _ _ _ _ (𝓟 .clear) .1
 
-    pub law-here : Lawful m
+    pub law-here : Lawful modeUnder
     law-here = law (𝓟 .key-bytes) (𝓟 .nonce-bytes)
 
-    pub long : length (messageOf m parcel) ≡ length parcel - 32
-    long = message-long m law-here header parcel (inputs .0)
+    pub long : length (messageOf modeUnder parcel) ≡ length parcel - 32
+    long = message-long modeUnder law-here header parcel (inputs .0)
 
     answers : (out : List ℕ) → length parcel - 32 ≤ length out
-        → openFrom start mode rounds key nonce header parcel out ≡ verdict (length parcel - 32) (opened m header parcel out)
-    unfolding m openFrom openChecks checked
+        → openFrom start mode rounds key nonce header parcel out ≡ verdict (length parcel - 32) (opened modeUnder header parcel out)
+    unfolding modeUnder openFrom openChecks checked
     answers out h = rw (passed-on _ _ (open-after _ _ _ _ _ _ (room (length parcel - 32) (length out) Clear)) (𝓟 .clear), roomy (length parcel - 32) (length out) h)
 
-    pub opens : genuine m header parcel ≡ true → Opens (openFrom start) mode rounds key nonce header parcel (messageOf m parcel)
+    pub opens : genuine modeUnder header parcel ≡ true → Opens (openFrom start) mode rounds key nonce header parcel (messageOf modeUnder parcel)
     unfolding verdict opened
     opens e out h = answers out (subst (λ (k : ℕ). k ≤ length out) long h) ∙ rw (e, long)
 
-    pub refuses : genuine m header parcel ≡ false → Refuses (openFrom start) mode rounds key nonce header parcel
+    pub refuses : genuine modeUnder header parcel ≡ false → Refuses (openFrom start) mode rounds key nonce header parcel
     unfolding verdict opened
     refuses e out h = answers out h ∙ rw e
 
-    pub message-is : Sealable mode rounds key nonce header (messageOf m parcel)
+    pub message-is : Sealable mode rounds key nonce header (messageOf modeUnder parcel)
     message-is = record {
       clear = rw long (message-inputs _ _ _ _ _ (length parcel) (𝓟 .clear));
       key-bytes = 𝓟 .key-bytes;
       nonce-bytes = 𝓟 .nonce-bytes;
-      bytes = message-bytes m law-here header parcel (𝓟 .bytes);
+      bytes = message-bytes modeUnder law-here header parcel (𝓟 .bytes);
     }
 
   module _ (message : List ℕ) (𝓜 : Sealable mode rounds key nonce header message) where
-    pub law-there : Lawful m
+    pub law-there : Lawful modeUnder
     law-there = law (𝓜 .key-bytes) (𝓜 .nonce-bytes)
 
-    pub parcel-is : Openable mode rounds key nonce header (parcelOf m header message)
+    pub parcel-is : Openable mode rounds key nonce header (parcelOf modeUnder header message)
     parcel-is = record {
-      clear = rw (parcel-long m law-there header message) (parcel-inputs _ _ _ _ _ (length message) (𝓜 .clear));
+      clear = rw (parcel-long modeUnder law-there header message) (parcel-inputs _ _ _ _ _ (length message) (𝓜 .clear));
       key-bytes = 𝓜 .key-bytes;
       nonce-bytes = 𝓜 .nonce-bytes;
-      bytes = parcel-bytes m law-there header message (𝓜 .bytes);
+      bytes = parcel-bytes modeUnder law-there header message (𝓜 .bytes);
     }
 
-    pub parcel-opens : Opens (openFrom start) mode rounds key nonce header (parcelOf m header message) message
+    pub parcel-opens : Opens (openFrom start) mode rounds key nonce header (parcelOf modeUnder header message) message
     parcel-opens =
-        subst (Opens (openFrom start) mode rounds key nonce header (parcelOf m header message)) (parcel-message m law-there header message (𝓜 .bytes))
-        (opens (parcelOf m header message) parcel-is (parcel-genuine m law-there header message (𝓜 .bytes)))
+        subst (Opens (openFrom start) mode rounds key nonce header (parcelOf modeUnder header message)) (parcel-message modeUnder law-there header message (𝓜 .bytes))
+        (opens (parcelOf modeUnder header message) parcel-is (parcel-genuine modeUnder law-there header message (𝓜 .bytes)))
 
     hands-back : HandsBack (sealFrom start) (openFrom start) mode rounds key nonce header message
-    hands-back = (parcelOf m header message, parcel-is, seals message 𝓜, parcel-opens)
+    hands-back = (parcelOf modeUnder header message, parcel-is, seals message 𝓜, parcel-opens)
 
     -- seal writes one parcel for a message
-    pub one-parcel : (parcel : List ℕ) → Seals (sealFrom start) mode rounds key nonce header message parcel → parcel ≡ parcelOf m header message
+    pub one-parcel : (parcel : List ℕ) → Seals (sealFrom start) mode rounds key nonce header message parcel → parcel ≡ parcelOf modeUnder header message
     one-parcel parcel e =
         let n = length message + 32 in
         let room : n ≤ length (zeros n) = omega (arith, length-zeros n) in
         let rest : drop n (zeros n) ≡ [] = drop-of-length-le (zeros n) {i = n} (omega (arith, length-zeros n)) in
-        let alike : parcel ++ drop n (zeros n) ≡ parcelOf m header message ++ drop n (zeros n)
+        let alike : parcel ++ drop n (zeros n) ≡ parcelOf modeUnder header message ++ drop n (zeros n)
         = ap (λ (r : Answer × List ℕ). r .1) (sym (e (zeros n) room) ∙ seals message 𝓜 (zeros n) room) in
-        sym (append-nil parcel) ∙ (rw rest at alike) ∙ append-nil (parcelOf m header message)
+        sym (append-nil parcel) ∙ (rw rest at alike) ∙ append-nil (parcelOf modeUnder header message)
 
-  by-tag : (parcel : List ℕ) → Openable mode rounds key nonce header parcel → (t : Bool) → genuine m header parcel ≡ t → Exactly (sealFrom start) (openFrom start) mode rounds key nonce header parcel
+  by-tag : (parcel : List ℕ) → Openable mode rounds key nonce header parcel → (t : Bool) → genuine modeUnder header parcel ≡ t → Exactly (sealFrom start) (openFrom start) mode rounds key nonce header parcel
   by-tag parcel 𝓟 true e =
       inl (
-        messageOf m parcel,
+        messageOf modeUnder parcel,
         message-is parcel 𝓟,
-        subst (Seals (sealFrom start) mode rounds key nonce header (messageOf m parcel)) (message-parcel m (law-here parcel 𝓟) header parcel (𝓟 .bytes) e)
-            (seals (messageOf m parcel) (message-is parcel 𝓟)),
+        subst (Seals (sealFrom start) mode rounds key nonce header (messageOf modeUnder parcel)) (message-parcel modeUnder (law-here parcel 𝓟) header parcel (𝓟 .bytes) e)
+            (seals (messageOf modeUnder parcel) (message-is parcel 𝓟)),
         opens parcel 𝓟 e,
       )
   by-tag parcel 𝓟 false e =
       inr (
         (λ message 𝓜 s. false≢true
-            (sym e ∙ ap (genuine m header) (one-parcel message 𝓜 parcel s) ∙ parcel-genuine m (law-there message 𝓜) header message (𝓜 .bytes))),
+            (sym e ∙ ap (genuine modeUnder header) (one-parcel message 𝓜 parcel s) ∙ parcel-genuine modeUnder (law-there message 𝓜) header message (𝓜 .bytes))),
         refuses parcel 𝓟 e,
       )
 

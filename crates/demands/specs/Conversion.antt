@@ -9,7 +9,7 @@ use Rattle.answers.specs.declared.Answer.the-variants.{Done, Refused}
 use Rattle.mem.specs.Mem.{oldStartOf}
 use Rattle.sealing.specs.Sealing.{sealFrom, sealCall, openCall, openOldCall}
 use Rattle.converting.specs.Converting.{convertCall}
-use Rattle.demands.specs.Demand2.{Sealable, Openable, Seals, Opens}
+use Rattle.demands.specs.Demand2.{Sealable, Openable, Call, Seals, Opens}
 
 module _ (mode rounds : ℕ) (key nonce header : List ℕ) where
   -- into every output, one without room for it too, convert answers and writes for that parcel what seal does for that message
@@ -18,40 +18,37 @@ module _ (mode rounds : ℕ) (key nonce header : List ℕ) where
       (out : List ℕ) → convertCall mode rounds key nonce header parcel out ≡ sealCall mode rounds key nonce header message out
 
   -- convert writes a parcel of the same length for that parcel, into every output that has room for it, and open hands back that message of it
-  abbrev pub HandsOver : List ℕ → List ℕ → Type 0
-  HandsOver parcel message =
-      (fresh : List ℕ) × (length fresh ≡ length parcel)
-      × ((out : List ℕ) → length parcel ≤ length out → convertCall mode rounds key nonce header parcel out ≡ (Done (length parcel), fresh ++ drop (length parcel) out))
-      × Opens openCall mode rounds key nonce header fresh message
+  abbrev pub OpensConverted : List ℕ → List ℕ → Type 0
+  OpensConverted parcel message =
+      (new : List ℕ) × (length new ≡ length parcel)
+      × ((out : List ℕ) → length parcel ≤ length out → convertCall mode rounds key nonce header parcel out ≡ (Done (length parcel), new ++ drop (length parcel) out))
+      × Opens openCall mode rounds key nonce header new message
 
-  -- no message comes out of that parcel under the old start, or under the new one
-  abbrev pub ShutToOld : List ℕ → Type 0
-  ShutToOld parcel = (message : List ℕ) → Opens openOldCall mode rounds key nonce header parcel message → ⊥
-
-  abbrev pub ShutToNew : List ℕ → Type 0
-  ShutToNew parcel = (message : List ℕ) → Opens openCall mode rounds key nonce header parcel message → ⊥
+  -- no message comes out of that parcel by that call
+  abbrev pub Unopened : Call → List ℕ → Type 0
+  Unopened opening parcel = (message : List ℕ) → Opens opening mode rounds key nonce header parcel message → ⊥
 
   -- convert refuses that parcel on that ground and changes no byte of an output that has room for a parcel
-  abbrev pub Declines : Ground → List ℕ → Type 0
-  Declines ground parcel = (out : List ℕ) → length parcel ≤ length out → convertCall mode rounds key nonce header parcel out ≡ (Refused ground 0, out)
+  abbrev pub RefusesUnchanged : Ground → List ℕ → Type 0
+  RefusesUnchanged ground parcel = (out : List ℕ) → length parcel ≤ length out → convertCall mode rounds key nonce header parcel out ≡ (Refused ground 0, out)
 
 -- message and length survive exactly; of every parcel that open refuses on no ground but 9 it is said what convert does
 pub record Conversion : Type 0 where
   -- what the old start's sealing makes of a message: convert does what seal does for the message, and so open hands it back
-  pub carries-over : (mode rounds : ℕ) (key nonce header message parcel : List ℕ) → Sealable mode rounds key nonce header message
+  pub converts-sealed : (mode rounds : ℕ) (key nonce header message parcel : List ℕ) → Sealable mode rounds key nonce header message
       → Seals (sealFrom oldStartOf) mode rounds key nonce header message parcel
-      → SealsAgain mode rounds key nonce header parcel message × HandsOver mode rounds key nonce header parcel message
+      → SealsAgain mode rounds key nonce header parcel message × OpensConverted mode rounds key nonce header parcel message
   -- a parcel that opens under the old start is converted, whether it opens under the new one or not
   pub converts : (mode rounds : ℕ) (key nonce header parcel message : List ℕ) → Openable mode rounds key nonce header parcel
       → Opens openOldCall mode rounds key nonce header parcel message → SealsAgain mode rounds key nonce header parcel message
   -- one that opens under the new start and not under the old is done already
   pub done-already : (mode rounds : ℕ) (key nonce header parcel message : List ℕ) → Openable mode rounds key nonce header parcel
-      → ShutToOld mode rounds key nonce header parcel → Opens openCall mode rounds key nonce header parcel message
-      → Declines mode rounds key nonce header DoneAlready parcel
+      → Unopened mode rounds key nonce header openOldCall parcel → Opens openCall mode rounds key nonce header parcel message
+      → RefusesUnchanged mode rounds key nonce header DoneAlready parcel
   -- every other gives 9
   pub neither : (mode rounds : ℕ) (key nonce header parcel : List ℕ) → Openable mode rounds key nonce header parcel
-      → ShutToOld mode rounds key nonce header parcel → ShutToNew mode rounds key nonce header parcel
-      → Declines mode rounds key nonce header TagDiffers parcel
+      → Unopened mode rounds key nonce header openOldCall parcel → Unopened mode rounds key nonce header openCall parcel
+      → RefusesUnchanged mode rounds key nonce header TagDiffers parcel
   -- a refusal, on whichever ground and for whatever arguments, changes no output
   pub unchanged : (mode rounds : ℕ) (key nonce header parcel out : List ℕ) (ground : Ground) (place : ℕ)
       → convertCall mode rounds key nonce header parcel out .0 ≡ Refused ground place → convertCall mode rounds key nonce header parcel out .1 ≡ out

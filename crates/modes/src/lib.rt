@@ -43,9 +43,9 @@ pub fn judge(start: [u64; 16], mode: u32, rounds: u32, header: &[u8], parcel: &[
     ensures { λ r. ⌜ r ≡ genuine (modeOf mode rounds start) (now (header .entry)) (now (parcel .entry)) ⌝ }
 {
     if mode == 1 {
-        opp_parcels::judge(start, rounds, header, parcel)
+        opp_converting::judge(start, rounds, header, parcel)
     } else {
-        mro_parcels::judge(start, rounds, header, parcel)
+        mro_converting::judge(start, rounds, header, parcel)
     }
 }
 
@@ -63,8 +63,8 @@ pub fn reseal(
     ensures { λ _. ⌜ now (out .exit) ≡ parcelOf (modeOf mode rounds to) (now (header .entry)) (messageOf (modeOf mode rounds from) (now (parcel .entry))) ++ drop (length (now (parcel .entry))) (now (out .entry)) ⌝ }
 {
     if mode == 1 {
-        opp_parcels::reseal(from, to, rounds, header, parcel, out);
+        opp_converting::reseal(from, to, rounds, header, parcel, out);
     } else {
-        mro_parcels::reseal(from, to, rounds, header, parcel, out);
+        mro_converting::reseal(from, to, rounds, header, parcel, out);
     }
 }

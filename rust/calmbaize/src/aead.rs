@@ -157,7 +157,7 @@ impl Aead {
     /// does with the same nonce and header, and writes the new parcel to the first `parcel.len()`
     /// bytes of `output`.
     ///
-    /// Returns that length. The rest of `output` is unchanged. It succeeds exactly where
+    /// Returns that length. The rest of `output` is unchanged. Given room, it succeeds exactly where
     /// [`open_old`](Self::open_old) opens `parcel`.
     ///
     /// # Errors

@@ -113,8 +113,8 @@ pub fn open_old(
 /// Seals the message of `parcel`, one of the old start, again under the new start with the same
 /// settings, and writes the new parcel to the first `parcel.len()` bytes of `output`.
 ///
-/// Returns that length. The rest of `output` is unchanged. It succeeds exactly where [`open_old`]
-/// opens `parcel`, and writes what [`seal`] writes for that message.
+/// Returns that length. The rest of `output` is unchanged. Given room, it succeeds exactly where
+/// [`open_old`] opens `parcel`, and writes what [`seal`] writes for that message.
 ///
 /// # Errors
 ///

@@ -68,6 +68,9 @@ struct Folder {
 impl Folder {
     fn new(options: &Options, path: &OsStr) -> Result<Self, Failure> {
         let given = Given::new(options)?;
+        if given.header.len() > MAX_HEADER_LEN {
+            return Err(Refusal::from(Ground::HeaderTooLong).into());
+        }
         Ok(Self {
             aead: given.aead()?,
             nonce: given.nonce.as_deref().map(Nonce::try_from).transpose()?,
@@ -77,18 +80,37 @@ impl Folder {
         })
     }
 
-    /// The names of the parcels, in their order.
-    fn parcels(&self) -> Vec<&OsStr> {
-        let files = self.names.iter().filter(|(_, is_file)| **is_file);
-        let names = files.map(|(name, _)| name.as_os_str());
-        names.filter(|name| is_parcel(name)).collect()
+    /// What each name stands for, in their order.
+    fn entries(&self) -> impl Iterator<Item = (&OsStr, Entry)> {
+        let names = self.names.iter();
+        names.map(|(name, is_file)| (name.as_os_str(), self.entry(name, *is_file)))
+    }
+
+    fn entry(&self, name: &OsStr, is_file: bool) -> Entry {
+        let bytes = name.as_bytes();
+        let mut endings = BESIDE.iter();
+        let parcel = endings.find_map(|end| bytes.strip_suffix(end.as_bytes()));
+        match parcel.map(|parcel| self.names.get(OsStr::from_bytes(parcel))) {
+            _ if bytes.starts_with(b".") => Entry::Silent,
+            Some(Some(true)) => Entry::Silent,
+            Some(_) => Entry::PassedOver("there is no parcel of that name without the ending"),
+            None if is_file => Entry::Parcel,
+            None => Entry::PassedOver("it is no regular file"),
+        }
     }
 
     fn convert(&self) -> Counts {
-        let parcels = self.parcels();
+        let is_parcel = |(_, entry): &(&OsStr, Entry)| *entry == Entry::Parcel;
+        let (parcels, others): (Vec<_>, Vec<_>) = self.entries().partition(is_parcel);
         let mut counts = Counts::default();
         let mut progress = Progress::new(parcels.len());
-        for name in parcels {
+        for (name, entry) in others {
+            if let Entry::PassedOver(why) = entry {
+                counts.passed_over += 1;
+                progress.line(&format!("{}: passed over: {why}", name.to_string_lossy()));
+            }
+        }
+        for (name, _) in parcels {
             if let Some(why) = counts.add(self.convert_parcel(name)) {
                 progress.line(&format!("{}: {why}", name.to_string_lossy()));
             }
@@ -104,10 +126,16 @@ impl Folder {
         let (nonce, header) = (self.nonce(name)?, self.header(name)?);
         let convert = |parcel: &[u8]| convert(&self.aead, &nonce, &header, parcel);
         let path = self.path.join(name).into_os_string();
-        convert(&files::read(Some(&path), MAX_PARCEL_LEN)?)?;
-        // What is there now counts, since another run may have come between.
+        let old = files::read(Some(&path), MAX_PARCEL_LEN)?;
+        let new = convert(&old)?;
         files::change(&path, MAX_PARCEL_LEN, |parcel| {
-            parcel.copy_from_slice(&convert(parcel)?);
+            // Another run may have come between: what is there now counts.
+            let new = if *parcel == old[..] {
+                new
+            } else {
+                convert(parcel)?
+            };
+            parcel.copy_from_slice(&new);
             Ok(())
         })?;
         Ok(())
@@ -135,17 +163,18 @@ impl Folder {
     }
 }
 
-fn is_parcel(name: &OsStr) -> bool {
-    let name = name.as_bytes();
-    let beside = BESIDE.iter().any(|end| name.ends_with(end.as_bytes()));
-    !beside && !name.starts_with(b".")
+/// What a name in the folder stands for.
+#[derive(PartialEq)]
+enum Entry {
+    Parcel,
+    /// Nothing is said of it: a hidden file, or one beside a parcel.
+    Silent,
+    PassedOver(&'static str),
 }
 
 fn no_nonce(name: &OsStr) -> Kept {
     let name = name.to_string_lossy();
-    Kept::Refused(format!(
-        "refused: {name}{NONCE} is not there, and no nonce is given"
-    ))
+    Kept::Failed(format!("{name}{NONCE} is not there, and no nonce is given"))
 }
 
 /// Why a parcel stays as it was.
@@ -178,6 +207,7 @@ struct Counts {
     done_already: usize,
     refused: usize,
     failed: usize,
+    passed_over: usize,
 }
 
 impl Counts {
@@ -198,8 +228,10 @@ impl Counts {
             "converted {}, done already {}, refused {}",
             self.converted, self.done_already, self.refused
         );
-        if self.failed > 0 {
-            text += &format!(", failed {}", self.failed);
+        for (what, count) in [("failed", self.failed), ("passed over", self.passed_over)] {
+            if count > 0 {
+                text += &format!(", {what} {count}");
+            }
         }
         text + "\n"
     }

@@ -3,9 +3,9 @@
 use crate::Failure;
 use std::collections::BTreeMap;
 use std::ffi::{OsStr, OsString};
-use std::fs::{self, File, OpenOptions, Permissions};
+use std::fs::{self, File, Metadata, OpenOptions};
 use std::io::{self, Read, Write};
-use std::os::unix::fs::{OpenOptionsExt, PermissionsExt};
+use std::os::unix::fs::{fchown, MetadataExt, OpenOptionsExt, PermissionsExt};
 use std::path::{Path, PathBuf};
 use std::process;
 
@@ -128,10 +128,9 @@ fn write_path(path: &Path, bytes: &[u8], access: Access) -> io::Result<()> {
     if existing.as_ref().is_some_and(|found| !found.is_file()) {
         return OpenOptions::new().write(true).open(path)?.write_all(bytes);
     }
-    let kept = existing.map(|found| found.permissions());
     let target = fs::canonicalize(path).unwrap_or_else(|_| path.to_path_buf());
     let temporary = temporary_name(&target)?;
-    Replacement::new(target, temporary, access, kept)?.put(bytes)
+    Replacement::new(target, temporary, access, existing)?.put(bytes)
 }
 
 /// A name beside the target, so that a rename stays within one file system.
@@ -146,12 +145,12 @@ fn lock_existing(path: &OsStr) -> io::Result<Replacement> {
     if !existing.is_file() {
         return Err(io::Error::other("it is no file"));
     }
-    lock(target, Some(existing.permissions()))
+    lock(target, Some(existing))
 }
 
 /// A replacement whose name no two runs of the tool can have at a time, so that none of them
 /// undoes what another has written.
-fn lock(target: PathBuf, kept: Option<Permissions>) -> io::Result<Replacement> {
+fn lock(target: PathBuf, kept: Option<Metadata>) -> io::Result<Replacement> {
     let mut path = target.clone().into_os_string();
     path.push(".lock");
     let name = path.to_string_lossy().into_owned();
@@ -171,19 +170,19 @@ struct Replacement {
     target: PathBuf,
     /// What it was made with, of which the umask may have taken some of what is `kept`.
     mode: u32,
-    kept: Option<Permissions>,
+    kept: Option<Metadata>,
     in_place: bool,
 }
 
 impl Replacement {
-    /// `kept` are the permissions of the file that is there. The new one is never open to more
+    /// `kept` is of the file that is there, whose permissions and owner stay. The new one is never open to more
     /// readers than in the end, not even while it is empty: who has opened it can read what is
     /// written later.
     fn new(
         target: PathBuf,
         path: PathBuf,
         access: Access,
-        kept: Option<Permissions>,
+        kept: Option<Metadata>,
     ) -> io::Result<Self> {
         let (mode, kept) = match (access, kept) {
             (Access::Owner, _) => (0o600, None),
@@ -209,7 +208,11 @@ impl Replacement {
         }
         self.file.write_all(bytes)?;
         if let Some(kept) = self.kept.take() {
-            self.file.set_permissions(kept)?;
+            // Who may not give a file away keeps it, as any that is made anew.
+            fchown(&self.file, Some(kept.uid()), Some(kept.gid()))
+                .or_else(|_| fchown(&self.file, None, Some(kept.gid())))
+                .ok();
+            self.file.set_permissions(kept.permissions())?;
         }
         self.file.sync_all()?;
         fs::rename(&self.path, &self.target)?;

@@ -47,21 +47,23 @@ const FOLDER: &str = "\
 Where the input is a folder, its parcels are replaced by the new ones, in the
 order of their names; output and hexadecimal are not for a folder. Every regular
 file is a parcel unless its name begins with '.' or ends in .lock, .nonce or
-.header. Links and folders within are passed over.
+.header. Links and folders within are passed over, and so are files with these
+endings that stand beside no parcel.
 
 NAME.nonce and NAME.header are the own nonce and header of the parcel NAME, raw
 bytes. For parcels without them those of the options hold; each needs a nonce.
 
 The counts are printed at the end, such as
 converted 97, done already 2, refused 1
-and then ', failed 1' where a file can't be read or written. A parcel that is
-refused or has failed gets a line on standard error, and the run goes on. The
-exit status is 2 where one has failed, or else 1 where one is refused. Only
-those that are converted are touched.
+and then ', failed 1' where a file can't be read or written or has no nonce, and
+', passed over 1'. What is refused, has failed or is passed over gets a line on
+standard error, and the run goes on. The exit status is 2 where one has failed,
+or else 1 where one is refused. Only those that are converted are touched.
 
-A file is replaced whole or not at all, and keeps its permissions. Meanwhile
-there is a NAME.lock, which keeps other runs from changing NAME. A run that was
-killed may leave it behind: see that none is running, and remove it.
+A file is replaced whole or not at all. It keeps its permissions and, where the
+system allows that, its owner and group. Meanwhile there is a NAME.lock, which
+keeps other runs from changing NAME. A run that was killed may leave it behind:
+see that none is running, and remove it.
 ";
 
 pub fn seal() -> String {

@@ -1,4 +1,4 @@
--- What the checks find is refused; where they are clear, the parcel is judged under each start, and one of three ways is taken. Assumes nothing.
+-- What the checks find is refused; where they are clear, the parcel is judged, under the old start first, and one of three ways is taken. Assumes nothing.
 use mathlib.Core.Path.{sym, ap₂, _∙_}
 use mathlib.Core.List.{List, _++_}
 use Prim.Native.Nat.{ℕ}
@@ -9,7 +9,7 @@ use Rattle.blockplan.specs.Parcel.{parcelOf, messageOf}
 use Rattle.checks.proofs.Clears.{convert-clear}
 use Rattle.modes.specs.Modes.{modeOf}
 use Rattle.converting.specs.Converting.{convertCall}
-use Rattle.converting.proofs.Answered.{judged, converted-where, done-where, neither-where}
+use Rattle.converting.proofs.Answered.{genuine-under, converted-where, done-where, neither-where}
 use borrow.Author.Needs.{needs}
 use Rattle.converting.proofs.convert.Statement.{statement}
 use Rattle.converting.proofs.convert.Tie as tie
@@ -51,7 +51,7 @@ returns-2 c =
     let parcel = now (a .parcel) in
     let old = c .before .before .before .before .before .before .before .start .ensures in
     let new = c .before .before .before .before .before .before .start2 .ensures in
-    let opens = judged (a .mode) (a .rounds) (now (a .header)) parcel old (c .before .before .before .before .before .judge .ensures) (c .before .before .before .before .if1 .taken) in
+    let opens = genuine-under (a .mode) (a .rounds) (now (a .header)) parcel old (c .before .before .before .before .before .judge .ensures) (c .before .before .before .before .if1 .taken) in
     let written = c .before .before .reseal .ensures
     ∙ ap₂ (λ (s t : List ℕ). parcelOf (modeOf (a .mode) (a .rounds) t) (now (a .header)) (messageOf (modeOf (a .mode) (a .rounds) s) parcel) ++ drop (length parcel) (now (a .out))) old new in
     converted-where _ _ _ _ _ _ opens written
@@ -64,8 +64,8 @@ returns-3 : tie.Need-returns-3
 unfolding convertCall
 returns-3 c =
     let a = c .before .before .before .before .before .before .before .before .before .before .before .before .before .before .args in
-    let shut = judged (a .mode) (a .rounds) (now (a .header)) (now (a .parcel)) (c .before .before .before .before .before .start .ensures) (c .before .before .before .judge .ensures) (c .before .before .if1 .left) in
-    let opens = judged (a .mode) (a .rounds) (now (a .header)) (now (a .parcel)) (c .before .before .before .before .start2 .ensures) (c .before .judge2 .ensures) (c .if2 .taken) in
+    let shut = genuine-under (a .mode) (a .rounds) (now (a .header)) (now (a .parcel)) (c .before .before .before .before .before .start .ensures) (c .before .before .before .judge .ensures) (c .before .before .if1 .left) in
+    let opens = genuine-under (a .mode) (a .rounds) (now (a .header)) (now (a .parcel)) (c .before .before .before .before .start2 .ensures) (c .before .judge2 .ensures) (c .if2 .taken) in
     done-where _ _ _ _ _ shut opens
     ∙ allowed _ _ (c .before .before .before .before .before .before .before .before .check-convert .ensures) (c .before .before .before .before .before .before .enum-told .given .1)
 
@@ -73,8 +73,8 @@ returns-4 : tie.Need-returns-4
 unfolding convertCall
 returns-4 c =
     let a = c .before .before .before .before .before .before .before .before .before .before .before .before .before .before .args in
-    let shut = judged (a .mode) (a .rounds) (now (a .header)) (now (a .parcel)) (c .before .before .before .before .before .start .ensures) (c .before .before .before .judge .ensures) (c .before .before .if1 .left) in
-    let shut-too = judged (a .mode) (a .rounds) (now (a .header)) (now (a .parcel)) (c .before .before .before .before .start2 .ensures) (c .before .judge2 .ensures) (c .if2 .left) in
+    let shut = genuine-under (a .mode) (a .rounds) (now (a .header)) (now (a .parcel)) (c .before .before .before .before .before .start .ensures) (c .before .before .before .judge .ensures) (c .before .before .if1 .left) in
+    let shut-too = genuine-under (a .mode) (a .rounds) (now (a .header)) (now (a .parcel)) (c .before .before .before .before .start2 .ensures) (c .before .judge2 .ensures) (c .if2 .left) in
     neither-where _ _ _ _ _ shut shut-too
     ∙ allowed _ _ (c .before .before .before .before .before .before .before .before .check-convert .ensures) (c .before .before .before .before .before .before .enum-told .given .1)
 

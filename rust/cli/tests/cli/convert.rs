@@ -9,7 +9,7 @@ use std::collections::BTreeMap;
 use std::ffi::{OsStr, OsString};
 use std::fs::{self, File};
 use std::os::unix::ffi::OsStrExt;
-use std::os::unix::fs::{symlink, MetadataExt};
+use std::os::unix::fs::{chown, symlink, MetadataExt};
 use std::path::{Path, PathBuf};
 use std::time::{Duration, SystemTime};
 
@@ -238,7 +238,8 @@ fn a_folder_may_have_no_parcel() {
     assert_eq!(card.convert(&[]), (Some(0), none, String::new()));
 }
 
-/// Each of them would be converted if it were taken for a parcel.
+/// Each of them would be converted if it were taken for a parcel. What is hidden, or stands beside a
+/// parcel, is not spoken of.
 #[test]
 fn what_is_no_parcel_is_passed_over() {
     let (card, other) = (Card::new("convert-others"), Card::new("convert-linked"));
@@ -251,7 +252,21 @@ fn what_is_no_parcel_is_passed_over() {
     fs::copy(other.path("parcel"), card.path("within").join("parcel")).unwrap();
     make_pipe(&card.path("pipe"));
     let before = (card.age(), other.age());
-    card.converts(0, "converted 0, done already 0, refused 0", "");
+    let no_file = "passed over: it is no regular file";
+    let alone = "passed over: there is no parcel of that name without the ending";
+    let mut lines = String::new();
+    for (name, why) in [
+        ("link", no_file),
+        ("pipe", no_file),
+        ("within", no_file),
+        ("x.header", alone),
+        ("x.lock", alone),
+        ("x.nonce", alone),
+    ] {
+        lines += &format!("{name}: {why}\n");
+    }
+    let counts = "converted 0, done already 0, refused 0, passed over 6";
+    card.converts(0, counts, &lines);
     assert_eq!((card.states(), other.states()), before);
     let within = card.path("within").join("parcel");
     assert_eq!(fs::read(within).unwrap(), old(b"tea"));
@@ -259,7 +274,24 @@ fn what_is_no_parcel_is_passed_over() {
     for name in ["x.lock.1", "lock", "xnonce", "header"] {
         card.put(name, old(b"tea"));
     }
-    card.converts(0, "converted 4, done already 0, refused 0", "");
+    let counts = "converted 4, done already 0, refused 0, passed over 6";
+    card.converts(0, counts, &lines);
+}
+
+/// Only some may give files away, so what is expected is what this test itself can do.
+#[test]
+fn a_parcel_keeps_its_owner() {
+    let card = Card::new("convert-owner");
+    card.put("a", old(b"tea"));
+    let owner = |card: &Card| {
+        let found = fs::metadata(card.path("a")).unwrap();
+        (found.uid(), found.gid())
+    };
+    chown(card.path("a"), Some(65534), Some(65533)).ok();
+    let before = owner(&card);
+    card.converts(0, "converted 1, done already 0, refused 0", "");
+    assert_eq!(owner(&card), before);
+    assert_eq!(card.bytes("a"), new(b"tea"));
 }
 
 #[test]
@@ -312,9 +344,9 @@ fn a_nonce_is_needed_for_each_parcel() {
     card.put("b", old(b"tea"));
     card.put("a.nonce", nonce());
     let (status, counts, error) = card.convert(&[]);
-    assert_eq!(counts, "converted 1, done already 0, refused 1\n");
-    let expected = "b: refused: b.nonce is not there, and no nonce is given\n";
-    assert_eq!((status, error.as_str()), (Some(1), expected));
+    assert_eq!(counts, "converted 1, done already 0, refused 0, failed 1\n");
+    let expected = "b: b.nonce is not there, and no nonce is given\n";
+    assert_eq!((status, error.as_str()), (Some(2), expected));
     assert_eq!(card.bytes("a"), new(b"tea"));
     assert_eq!(card.bytes("b"), old(b"tea"));
     card.put("b.nonce", nonce());
@@ -343,6 +375,9 @@ fn wrong_usage_of_a_folder() {
     assert!(error.starts_with("calmbaize: refused with 2: "), "{error}");
     let error = fails(&card.args(&["--nonce", "00"]), b"", 1);
     assert!(error.starts_with("calmbaize: refused with 4: "), "{error}");
+    let long = "00".repeat(4097);
+    let error = fails(&card.args(&["--nonce", NONCE, "--header", &long]), b"", 1);
+    assert!(error.starts_with("calmbaize: refused with 5: "), "{error}");
     assert_eq!(card.states(), before);
     // The key may come by standard input, since the parcels do not.
     let key: Vec<u8> = (0..32).collect();
