@@ -10,6 +10,10 @@ set -eu
 
 rt=$(readlink -f "$(command -v rt)")
 home=${RATTLE_HOME:-$(dirname "$rt")/..}
+if [ ! -f "$home/KIT-ID" ]; then
+    echo "kit.sh: no kit at $home" >&2
+    exit 2
+fi
 # Where that is such a folder already, the kit behind it.
 home=$(dirname "$(readlink -f "$home/KIT-ID")")
 own=on/$(uname -m)

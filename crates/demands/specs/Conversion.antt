@@ -32,7 +32,7 @@ module _ (mode rounds : ℕ) (key nonce header : List ℕ) where
   abbrev pub RefusesUnchanged : Ground → List ℕ → Type 0
   RefusesUnchanged ground parcel = (out : List ℕ) → length parcel ≤ length out → convertCall mode rounds key nonce header parcel out ≡ (Refused ground 0, out)
 
--- message and length survive exactly; of every parcel that open refuses on no ground but 9 it is said what convert does
+-- message and length survive exactly; of every parcel that open refuses on no ground but 9, given room for it, it is said what convert does
 pub record Conversion : Type 0 where
   -- what the old start's sealing makes of a message: convert does what seal does for the message, and so open hands it back
   pub converts-sealed : (mode rounds : ℕ) (key nonce header message parcel : List ℕ) → Sealable mode rounds key nonce header message

@@ -1,4 +1,4 @@
-// The message of a parcel summed as it is opened, block by block, and never written.
+// The message of a parcel summed as it is opened, block by block; it goes to no output.
 use blockplan::leftover::xor_leftover;
 use masks::steps::alpha;
 use masks::steps::beta;

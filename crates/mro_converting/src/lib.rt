@@ -1,4 +1,4 @@
-// MRO's parcels judged under a start, and sealed again from another, with no plain byte written.
+// MRO's parcels judged under a start, and sealed again from another: no plain byte goes to an output.
 use crate::judging::opened_tag;
 use crate::resealing::xor_streams;
 use mro::stream::load_tag;

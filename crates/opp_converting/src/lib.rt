@@ -1,4 +1,4 @@
-// OPP's parcels judged under a start, and sealed again from another, with no plain byte written.
+// OPP's parcels judged under a start, and sealed again from another: no plain byte goes to an output.
 use crate::judging::check;
 use crate::resealing::reseal_all;
 use opp::tag::tag_block;

@@ -68,12 +68,14 @@ struct Folder {
 impl Folder {
     fn new(options: &Options, path: &OsStr) -> Result<Self, Failure> {
         let given = Given::new(options)?;
+        let aead = given.aead()?;
+        let nonce = given.nonce.as_deref().map(Nonce::try_from).transpose()?;
         if given.header.len() > MAX_HEADER_LEN {
             return Err(Refusal::from(Ground::HeaderTooLong).into());
         }
         Ok(Self {
-            aead: given.aead()?,
-            nonce: given.nonce.as_deref().map(Nonce::try_from).transpose()?,
+            aead,
+            nonce,
             header: given.header,
             names: files::names(path)?,
             path: path.into(),
@@ -89,14 +91,19 @@ impl Folder {
     fn entry(&self, name: &OsStr, is_file: bool) -> Entry {
         let bytes = name.as_bytes();
         let mut endings = BESIDE.iter();
-        let parcel = endings.find_map(|end| bytes.strip_suffix(end.as_bytes()));
-        match parcel.map(|parcel| self.names.get(OsStr::from_bytes(parcel))) {
+        let beside = endings.find_map(|end| bytes.strip_suffix(end.as_bytes()));
+        match beside.map(OsStr::from_bytes) {
             _ if bytes.starts_with(b".") => Entry::Silent,
-            Some(Some(true)) => Entry::Silent,
+            Some(parcel) if self.is_parcel(parcel) => Entry::Silent,
             Some(_) => Entry::PassedOver("there is no parcel of that name without the ending"),
             None if is_file => Entry::Parcel,
             None => Entry::PassedOver("it is no regular file"),
         }
+    }
+
+    fn is_parcel(&self, name: &OsStr) -> bool {
+        let found = self.names.get(name);
+        found.is_some_and(|is_file| self.entry(name, *is_file) == Entry::Parcel)
     }
 
     fn convert(&self) -> Counts {

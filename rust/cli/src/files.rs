@@ -168,16 +168,17 @@ struct Replacement {
     file: File,
     path: PathBuf,
     target: PathBuf,
-    /// What it was made with, of which the umask may have taken some of what is `kept`.
+    /// Whom it may be open to in the end; some file systems open a file to more.
     mode: u32,
     kept: Option<Metadata>,
     in_place: bool,
 }
 
 impl Replacement {
-    /// `kept` is of the file that is there, whose permissions and owner stay. The new one is never open to more
-    /// readers than in the end, not even while it is empty: who has opened it can read what is
-    /// written later.
+    /// `kept` is of the file that is there, whose permissions and owner an ordinary one takes over.
+    /// The new one is never open to more readers than in the end, not even while it is empty: who
+    /// has opened it can read what is written later. So the group, which may be another one at
+    /// first, gets its share last.
     fn new(
         target: PathBuf,
         path: PathBuf,
@@ -189,8 +190,10 @@ impl Replacement {
             (Access::Ordinary, None) => (0o666, None),
             (Access::Ordinary, Some(kept)) => (kept.mode() & 0o777, Some(kept)),
         };
+        let at_first = if kept.is_some() { mode & 0o700 } else { mode };
         let mut options = OpenOptions::new();
-        let file = options.write(true).create_new(true).mode(mode).open(&path);
+        let file = options.write(true).create_new(true).mode(at_first);
+        let file = file.open(&path);
         Ok(Self {
             file: file?,
             path,

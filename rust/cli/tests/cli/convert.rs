@@ -243,7 +243,14 @@ fn a_folder_may_have_no_parcel() {
 #[test]
 fn what_is_no_parcel_is_passed_over() {
     let (card, other) = (Card::new("convert-others"), Card::new("convert-linked"));
-    for name in [".hidden", ".lock", "x.lock", "x.nonce", "x.header"] {
+    for name in [
+        ".hidden",
+        ".lock",
+        "x.lock",
+        "x.nonce",
+        "x.nonce.lock",
+        "x.header",
+    ] {
         card.put(name, old(b"tea"));
     }
     other.put("parcel", old(b"tea"));
@@ -262,10 +269,11 @@ fn what_is_no_parcel_is_passed_over() {
         ("x.header", alone),
         ("x.lock", alone),
         ("x.nonce", alone),
+        ("x.nonce.lock", alone),
     ] {
         lines += &format!("{name}: {why}\n");
     }
-    let counts = "converted 0, done already 0, refused 0, passed over 6";
+    let counts = "converted 0, done already 0, refused 0, passed over 7";
     card.converts(0, counts, &lines);
     assert_eq!((card.states(), other.states()), before);
     let within = card.path("within").join("parcel");
@@ -274,7 +282,7 @@ fn what_is_no_parcel_is_passed_over() {
     for name in ["x.lock.1", "lock", "xnonce", "header"] {
         card.put(name, old(b"tea"));
     }
-    let counts = "converted 4, done already 0, refused 0, passed over 6";
+    let counts = "converted 4, done already 0, refused 0, passed over 7";
     card.converts(0, counts, &lines);
 }
 
@@ -378,6 +386,9 @@ fn wrong_usage_of_a_folder() {
     let long = "00".repeat(4097);
     let error = fails(&card.args(&["--nonce", NONCE, "--header", &long]), b"", 1);
     assert!(error.starts_with("calmbaize: refused with 5: "), "{error}");
+    // In the order of the library's checks.
+    let error = fails(&card.args(&["-r", "5", "--header", &long]), b"", 1);
+    assert!(error.starts_with("calmbaize: refused with 2: "), "{error}");
     assert_eq!(card.states(), before);
     // The key may come by standard input, since the parcels do not.
     let key: Vec<u8> = (0..32).collect();

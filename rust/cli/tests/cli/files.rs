@@ -173,7 +173,7 @@ fn temporary_files_are_never_open_to_others() {
     let cases = [
         (sealing("open", &[]), &parcel[..], None, 0o600),
         (sealing("open", &[]), &parcel[..], Some(0o666), 0o600),
-        (sealing("seal", &[]), b"x", Some(0o640), 0o640),
+        (sealing("seal", &[]), b"x", Some(0o640), 0o600),
     ];
     for (args, input, before, expected) in cases {
         let folder = folder("temporary");

@@ -330,7 +330,8 @@ fn a_lock_keeps_others_off() {
     let limits = format!("umask 0; {NO_FILES}");
     let killed = run_after(&limits, &take, b"");
     assert_eq!(killed.status.code(), None, "killed");
-    assert_eq!(mode(&till.lock()), 0o640);
+    // Others get their share with the name.
+    assert_eq!(mode(&till.lock()), 0o600);
     for args in [&take, &till.args(&["format", "--force"])] {
         let error = fails(args, b"", 2);
         assert!(error.contains("till.lock is there: another run"), "{error}");
