@@ -54,7 +54,7 @@ result "calls outside" "$(symbols --undefined-only | names |
     grep -vxE 'mem(cpy|set|move|cmp)|_GLOBAL_OFFSET_TABLE_' || true)"
 # Data that can be written would be state kept between calls.
 result "neither code nor constant" "$(symbols --defined-only | grep -v '^[TtRr] ' | names)"
-# tools/kit.sh has it inlined; a call of it for each block costs a sixth to a third of the time.
+# tools/kit.sh has it inlined; a call of it for each block costs OPP a good part of its time.
 result "left as a call" "$(symbols --defined-only | names | grep '^permutation' || true)"
 
 echo "$passed passed, $failed failed"

@@ -5,7 +5,8 @@
 # usage: kit.sh FOLDER
 #
 # The permutation and its way back have several callers, so that the compiler by itself leaves a call for
-# each block of a message, which costs a sixth to a third of the time. The prover has no option for that.
+# each block of a message, which costs OPP with four rounds a fifth to a third of its time. The prover has
+# no option for that.
 set -eu
 
 rt=$(readlink -f "$(command -v rt)")
