@@ -17,7 +17,7 @@ trap 'rm -rf "$work"' EXIT
     rt "$@" 2>&1
     echo $? > "$work/status"
 } | tee "$work/log" |
-    sed -uE '/^(library|logic[ =]|crate |note:|fn |enum |struct )|\(unchanged since it was last proved\)$/d' |
+    sed -uE '/^(library|logic[ =]|crate |(\/[^ ]*: )?note:|fn |enum |struct )|\(unchanged since it was last proved\)$/d' |
     "$tools/stamped.sh"
 status=$(cat "$work/status")
 if [ "$status" -ne 0 ]; then
