@@ -10,6 +10,7 @@ DIST := dist
 TOOL := rust/target/release/calmbaize
 
 archive := target/staticlib/libcalmbaize.a
+wide := target/x86-64-v3/libcalmbaize.a
 # All that the proofs read; a folder is newer where a file came or went.
 sources := crates.txt $(shell find crates -name must-fail -prune -o -print)
 # One line where the prover is missing, else nothing.
@@ -19,13 +20,24 @@ no_prover = $(shell tools/need.sh rt '' 2>&1)
 
 all: dist $(if $(shell command -v cargo 2> /dev/null),tool) ## the default: dist, and tool where cargo is there
 
-dist: $(archive) ## proves, and leaves the archive, the header and a pkg-config file in dist/
-	@tools/make-dist.sh $(archive)
-	@echo "dist: the archive, the header and a pkg-config file are in dist/"
+dist: $(archive) $(wide) ## proves, and leaves both archives, the header and pkg-config files in dist/
+	@tools/make-dist.sh $(archive) $(wide)
+	@echo "dist: the archive, the header and a pkg-config file are in dist/, the archive for x86-64-v3 in dist/x86-64-v3/"
 
-$(archive): $(sources) tools/kit.sh
+# $(call compile,WORDS): proves and compiles with the kit that kit.sh makes by these words.
+define compile
 	$(if $(no_prover),$(error $(no_prover)))
-	@RATTLE_HOME=$$(tools/kit.sh target/kit) && export RATTLE_HOME && tools/prove.sh staticlib calmbaize
+	@RATTLE_HOME=$$(tools/kit.sh $(1)) && export RATTLE_HOME && tools/prove.sh staticlib calmbaize
+endef
+
+# The prover writes both archives to one place, so the wide one comes first and is moved away.
+$(archive): $(wide)
+	$(call compile,target/kit)
+
+$(wide): $(sources) tools/kit.sh tools/compile.sh
+	$(call compile,target/kit-wide wide)
+	@mkdir -p $(@D)
+	@mv $(archive) $@
 
 tool: dist ## builds the command line tool
 	@tools/need.sh cargo cargo

@@ -1,144 +1,10 @@
-#include "internal.h"
+#include "sealing.h"
 
-#include <string.h>
-
-enum { WORDS = 16, BLOCK = 128, RUN = 16 };
+enum { RUN = 16 };
 enum { MAX_HEADER = 4096, MAX_MESSAGE = 65536, MAX_STEPS = 4096, MAX_COUNT = 65536 };
 
 /* The round counts that seal and open take. */
 static const uint32_t ROUNDS[] = {4, 6, 8, 12};
-
-/* Words and blocks. */
-
-static inline uint64_t rotl(uint64_t x, int n)
-{
-    return x << n | x >> (64 - n);
-}
-
-static inline uint64_t rotr(uint64_t x, int n)
-{
-    return x >> n | x << (64 - n);
-}
-
-/* Words stand low byte first. */
-static inline uint64_t little_endian(uint64_t x)
-{
-#if defined(__BYTE_ORDER__) && __BYTE_ORDER__ == __ORDER_BIG_ENDIAN__
-    return __builtin_bswap64(x);
-#else
-    return x;
-#endif
-}
-
-static inline uint64_t load64(const uint8_t *p)
-{
-    uint64_t x;
-
-    memcpy(&x, p, sizeof x);
-    return little_endian(x);
-}
-
-static inline void store64(uint8_t *p, uint64_t x)
-{
-    x = little_endian(x);
-    memcpy(p, &x, sizeof x);
-}
-
-static inline void load(uint64_t block[WORDS], const uint8_t *p)
-{
-    for (int i = 0; i < WORDS; i++)
-        block[i] = load64(p + 8 * i);
-}
-
-static inline void store(uint8_t *p, const uint64_t block[WORDS])
-{
-    for (int i = 0; i < WORDS; i++)
-        store64(p + 8 * i, block[i]);
-}
-
-static inline void xor_into(uint64_t a[WORDS], const uint64_t b[WORDS])
-{
-    for (int i = 0; i < WORDS; i++)
-        a[i] ^= b[i];
-}
-
-/* The len bytes at p, then the byte pad, then zeros; len is under 128. */
-static void load_padded(uint64_t block[WORDS], const uint8_t *p, size_t len, uint8_t pad)
-{
-    uint8_t bytes[BLOCK] = {0};
-
-    if (len > 0)
-        memcpy(bytes, p, len);
-    bytes[len] = pad;
-    load(block, bytes);
-}
-
-/* The four words of a tag. */
-static inline void load_tag(uint64_t tag[4], const uint8_t *p)
-{
-    for (int i = 0; i < 4; i++)
-        tag[i] = load64(p + 8 * i);
-}
-
-/* The permutation. */
-
-#define G(a, b, c, d)            \
-    do {                         \
-        (a) += (b);              \
-        (d) = rotr((d) ^ (a), 32); \
-        (c) += (d);              \
-        (b) = rotr((b) ^ (c), 24); \
-        (a) += (b);              \
-        (d) = rotr((d) ^ (a), 16); \
-        (c) += (d);              \
-        (b) = rotr((b) ^ (c), 63); \
-    } while (0)
-
-#define UNG(a, b, c, d)          \
-    do {                         \
-        (b) = rotl((b), 63) ^ (c); \
-        (c) -= (d);              \
-        (d) = rotl((d), 16) ^ (a); \
-        (a) -= (b);              \
-        (b) = rotl((b), 24) ^ (c); \
-        (c) -= (d);              \
-        (d) = rotl((d), 32) ^ (a); \
-        (a) -= (b);              \
-    } while (0)
-
-/* Both take at least one round, which spares the compiler a way past the loop. */
-
-static inline void permute(uint32_t rounds, uint64_t s[WORDS])
-{
-    uint32_t r = 0;
-
-    do {
-        G(s[0], s[4], s[8], s[12]);
-        G(s[1], s[5], s[9], s[13]);
-        G(s[2], s[6], s[10], s[14]);
-        G(s[3], s[7], s[11], s[15]);
-        G(s[0], s[5], s[10], s[15]);
-        G(s[1], s[6], s[11], s[12]);
-        G(s[2], s[7], s[8], s[13]);
-        G(s[3], s[4], s[9], s[14]);
-    } while (++r < rounds);
-}
-
-static inline void unpermute(uint32_t rounds, uint64_t s[WORDS])
-{
-    uint32_t r = 0;
-
-    do {
-        UNG(s[3], s[4], s[9], s[14]);
-        UNG(s[2], s[7], s[8], s[13]);
-        UNG(s[1], s[6], s[11], s[12]);
-        UNG(s[0], s[5], s[10], s[15]);
-        UNG(s[3], s[7], s[11], s[15]);
-        UNG(s[2], s[6], s[10], s[14]);
-        UNG(s[1], s[5], s[9], s[13]);
-        UNG(s[0], s[4], s[8], s[12]);
-    } while (++r < rounds);
-}
 
 void baseline_permute(uint32_t rounds, uint64_t s[16])
 {
@@ -148,12 +14,6 @@ void baseline_permute(uint32_t rounds, uint64_t s[16])
 
 /* Steps. */
 
-/* The word that an alpha step puts behind the sixteen at m. */
-static inline uint64_t next_word(const uint64_t *m)
-{
-    return rotl(m[0], 53) ^ m[5] << 13;
-}
-
 static inline void alpha(uint64_t m[WORDS])
 {
     uint64_t last = next_word(m);
@@ -161,26 +21,6 @@ static inline void alpha(uint64_t m[WORDS])
     for (int i = 0; i < WORDS - 1; i++)
         m[i] = m[i + 1];
     m[WORDS - 1] = last;
-}
-
-static inline void beta(uint64_t m[WORDS])
-{
-    uint64_t last = next_word(m) ^ m[15];
-
-    for (int i = 0; i < WORDS - 1; i++)
-        m[i] ^= m[i + 1];
-    m[WORDS - 1] = last;
-}
-
-static inline void gamma_step(uint64_t m[WORDS])
-{
-    uint64_t w16 = next_word(m);
-    uint64_t w17 = next_word(m + 1);
-
-    for (int i = 0; i < WORDS - 2; i++)
-        m[i] ^= m[i + 1] ^ m[i + 2];
-    m[14] ^= m[15] ^ w16;
-    m[15] ^= w16 ^ w17;
 }
 
 /* Masks. */
@@ -203,11 +43,7 @@ static inline uint64_t *mask(struct masks *masks)
 static void first_mask(struct masks *masks, const uint64_t start[WORDS], int b, int g)
 {
     masks->at = RUN;
-    memcpy(mask(masks), start, BLOCK);
-    while (b-- > 0)
-        beta(mask(masks));
-    while (g-- > 0)
-        gamma_step(mask(masks));
+    mask_of(mask(masks), start, b, g);
 }
 
 static inline void next_mask(struct masks *masks)
@@ -219,22 +55,6 @@ static inline void next_mask(struct masks *masks)
         masks->at = 0;
     }
     masks->at++;
-}
-
-/* E and D under the mask m. */
-
-static inline void encrypt(uint32_t rounds, const uint64_t m[WORDS], uint64_t block[WORDS])
-{
-    xor_into(block, m);
-    permute(rounds, block);
-    xor_into(block, m);
-}
-
-static inline void decrypt(uint32_t rounds, const uint64_t m[WORDS], uint64_t block[WORDS])
-{
-    xor_into(block, m);
-    unpermute(rounds, block);
-    xor_into(block, m);
 }
 
 /* Adds E of the whole blocks at p to sum, each under its mask, and steps the masks past them. */
@@ -251,79 +71,19 @@ static void absorb_whole(uint32_t rounds, struct masks *masks, const uint8_t *p,
     }
 }
 
-/*
- * Adds E of all of p to sum, from the mask (0, b, 0) on. OPP pads a leftover with the byte 1 and
- * takes it in under a mask one beta step further; MRO pads it with zeros.
- */
+/* Adds E of all of p to sum, from the mask (0, b, 0) on. */
 static inline void absorb(uint32_t mode, uint32_t rounds, const uint64_t start[WORDS], int b,
                           const uint8_t *p, size_t len, uint64_t sum[WORDS])
 {
     struct masks masks;
-    uint64_t block[WORDS];
-    size_t blocks = len / BLOCK, leftover = len % BLOCK;
+    size_t blocks = len / BLOCK;
 
     first_mask(&masks, start, b, 0);
     absorb_whole(rounds, &masks, p, blocks, sum);
-    if (leftover > 0) {
-        load_padded(block, p + blocks * BLOCK, leftover, mode == OPP);
-        if (mode == OPP)
-            beta(mask(&masks));
-        encrypt(rounds, mask(&masks), block);
-        xor_into(sum, block);
-    }
-}
-
-/* The round count and the tag's bits stand between nonce and key; in the old start both are zero. */
-static void start_block(int old, uint64_t start[WORDS], uint32_t rounds, const uint8_t *key,
-                        const uint8_t *nonce)
-{
-    uint8_t bytes[BLOCK] = {0};
-
-    memcpy(bytes, nonce, NONCE);
-    memcpy(bytes + BLOCK - KEY, key, KEY);
-    load(start, bytes);
-    if (!old) {
-        start[10] = rounds;
-        start[11] = 8 * TAG;
-    }
-    permute(rounds, start);
-}
-
-static void xor_bytes(uint8_t *out, const uint8_t *in, const uint64_t stream[WORDS], size_t len)
-{
-    uint8_t bytes[BLOCK];
-
-    store(bytes, stream);
-    for (size_t i = 0; i < len; i++)
-        out[i] = in[i] ^ bytes[i];
+    absorb_leftover(mode, rounds, mask(&masks), p + blocks * BLOCK, len % BLOCK, sum);
 }
 
 /* OPP. */
-
-/*
- * The leftover of in goes to out. m is the mask (i, 0, 1) behind the last whole block; check takes
- * in the message's leftover, which is in when sealing and out when opening, and becomes the tag.
- */
-static void opp_finish(uint32_t rounds, uint64_t m[WORDS], const uint8_t *in, uint8_t *out,
-                       size_t leftover, int opening, uint64_t check[WORDS])
-{
-    uint64_t block[WORDS] = {0}, text[WORDS];
-
-    beta(m);
-    if (leftover > 0) {
-        encrypt(rounds, m, block);
-        /* Before out is written: it may be in. */
-        if (!opening)
-            load_padded(text, in, leftover, 1);
-        xor_bytes(out, in, block, leftover);
-        if (opening)
-            load_padded(text, out, leftover, 1);
-        xor_into(check, text);
-        beta(m);
-    }
-    beta(m);
-    encrypt(rounds, m, check);
-}
 
 static void opp_seal(uint32_t rounds, const uint64_t start[WORDS], const uint8_t *in, uint8_t *out,
                      size_t len, uint64_t tag[WORDS])
@@ -364,55 +124,12 @@ static void opp_open(uint32_t rounds, const uint64_t start[WORDS], const uint8_t
 
 /* MRO. */
 
-/* The sum over header and message becomes the tag. */
-static void mro_finish(uint32_t rounds, const uint64_t start[WORDS], size_t header_len, size_t len,
-                       uint64_t tag[WORDS])
-{
-    struct masks masks;
-
-    tag[14] ^= header_len;
-    tag[15] ^= len;
-    first_mask(&masks, start, 2, 0);
-    encrypt(rounds, mask(&masks), tag);
-}
-
 static void mro_tag(uint32_t rounds, const uint64_t start[WORDS], const uint8_t *header,
                     size_t header_len, const uint8_t *message, size_t len, uint64_t tag[WORDS])
 {
     absorb(MRO, rounds, start, 0, header, header_len, tag);
     absorb(MRO, rounds, start, 1, message, len, tag);
     mro_finish(rounds, start, header_len, len, tag);
-}
-
-/* Block i of the stream under the tag; m is the mask (0, 0, 1). */
-static inline void stream_block(uint32_t rounds, const uint64_t m[WORDS], const uint64_t tag[4],
-                                uint64_t i, uint64_t block[WORDS])
-{
-    memcpy(block, tag, TAG);
-    memset(block + 4, 0, BLOCK - TAG);
-    block[15] = i;
-    encrypt(rounds, m, block);
-}
-
-/* Encrypts or decrypts under the tag. */
-static void mro_stream(uint32_t rounds, const uint64_t start[WORDS], const uint64_t tag[4],
-                       const uint8_t *in, uint8_t *out, size_t len)
-{
-    struct masks masks;
-    uint64_t block[WORDS], text[WORDS];
-
-    first_mask(&masks, start, 0, 1);
-    for (uint64_t i = 0; len > 0; i++) {
-        stream_block(rounds, mask(&masks), tag, i, block);
-        if (len < BLOCK) {
-            xor_bytes(out, in, block, len);
-            return;
-        }
-        load(text, in);
-        xor_into(block, text);
-        store(out, block);
-        len -= BLOCK, in += BLOCK, out += BLOCK;
-    }
 }
 
 /* Decrypts under the tag that came behind the ciphertext, and makes the tag of what that gives. */
@@ -484,9 +201,20 @@ static uint64_t check_settings(uint32_t mode, uint32_t rounds, size_t key_len, s
     return 0;
 }
 
-/* What every call that takes a parcel checks before its output. */
-static uint64_t check_parcel(uint32_t mode, uint32_t rounds, size_t key_len, size_t nonce_len,
-                             size_t header_len, size_t input_len)
+uint64_t baseline_check_message(uint32_t mode, uint32_t rounds, size_t key_len, size_t nonce_len,
+                                size_t header_len, size_t input_len)
+{
+    uint64_t refusal = check_settings(mode, rounds, key_len, nonce_len, header_len);
+
+    if (refusal != 0)
+        return refusal;
+    if (input_len > MAX_MESSAGE)
+        return refuse(6, 0);
+    return 0;
+}
+
+uint64_t baseline_check_parcel(uint32_t mode, uint32_t rounds, size_t key_len, size_t nonce_len,
+                               size_t header_len, size_t input_len)
 {
     uint64_t refusal = check_settings(mode, rounds, key_len, nonce_len, header_len);
 
@@ -497,15 +225,6 @@ static uint64_t check_parcel(uint32_t mode, uint32_t rounds, size_t key_len, siz
     if (input_len - TAG > MAX_MESSAGE)
         return refuse(6, 0);
     return 0;
-}
-
-static int tag_differs(const uint8_t *p, const uint64_t tag[4])
-{
-    uint64_t difference = 0;
-
-    for (int i = 0; i < 4; i++)
-        difference |= load64(p + 8 * i) ^ tag[i];
-    return difference != 0;
 }
 
 /* The parcel of the len bytes of input, which may be the output. */
@@ -522,8 +241,7 @@ static void seal_parcel(uint32_t mode, uint32_t rounds, const uint64_t start[WOR
         mro_tag(rounds, start, header, header_len, input, len, tag);
         mro_stream(rounds, start, tag, input, output, len);
     }
-    for (int i = 0; i < 4; i++)
-        store64(output + len + 8 * i, tag[i]);
+    store_tag(output + len, tag);
 }
 
 static uint64_t seal_from(int old, uint32_t mode, uint32_t rounds, const uint8_t *key,
@@ -532,12 +250,11 @@ static uint64_t seal_from(int old, uint32_t mode, uint32_t rounds, const uint8_t
                           size_t input_len, uint8_t *output, size_t output_len)
 {
     uint64_t start[WORDS];
-    uint64_t refusal = check_settings(mode, rounds, key_len, nonce_len, header_len);
+    uint64_t refusal =
+        baseline_check_message(mode, rounds, key_len, nonce_len, header_len, input_len);
 
     if (refusal != 0)
         return refusal;
-    if (input_len > MAX_MESSAGE)
-        return refuse(6, 0);
     if (output_len < input_len + TAG)
         return refuse(7, 0);
 
@@ -570,7 +287,8 @@ static uint64_t open_from(int old, uint32_t mode, uint32_t rounds, const uint8_t
                           size_t input_len, uint8_t *output, size_t output_len)
 {
     uint64_t start[WORDS], tag[WORDS] = {0};
-    uint64_t refusal = check_parcel(mode, rounds, key_len, nonce_len, header_len, input_len);
+    uint64_t refusal =
+        baseline_check_parcel(mode, rounds, key_len, nonce_len, header_len, input_len);
     size_t len = input_len - TAG;
 
     if (refusal != 0)
@@ -585,12 +303,7 @@ static uint64_t open_from(int old, uint32_t mode, uint32_t rounds, const uint8_t
     } else {
         mro_open(rounds, start, header, header_len, input, output, len, tag);
     }
-    if (tag_differs(input + len, tag)) {
-        if (len > 0)
-            memset(output, 0, len);
-        return refuse(9, 0);
-    }
-    return len;
+    return opened(input + len, tag, output, len);
 }
 
 uint64_t baseline_open(uint32_t mode, uint32_t rounds, const uint8_t *key, size_t key_len,
@@ -650,7 +363,8 @@ uint64_t baseline_convert(uint32_t mode, uint32_t rounds, const uint8_t *key, si
                           uint8_t *output, size_t output_len)
 {
     uint64_t old_start[WORDS], new_start[WORDS];
-    uint64_t refusal = check_parcel(mode, rounds, key_len, nonce_len, header_len, input_len);
+    uint64_t refusal =
+        baseline_check_parcel(mode, rounds, key_len, nonce_len, header_len, input_len);
     size_t len = input_len - TAG;
 
     if (refusal != 0)

@@ -36,6 +36,22 @@ uint64_t baseline_convert(uint32_t mode, uint32_t rounds,
                           const uint8_t *input, size_t input_len,
                           uint8_t *output, size_t output_len);
 
+uint64_t baseline_seal_run(uint32_t mode, uint32_t rounds,
+                           const uint8_t *key, size_t key_len,
+                           const uint8_t *nonce, size_t nonce_len,
+                           const uint8_t *header, size_t header_len,
+                           const uint8_t *input, size_t input_len,
+                           uint8_t *output, size_t output_len,
+                           uint64_t *words, size_t words_len);
+
+uint64_t baseline_open_run(uint32_t mode, uint32_t rounds,
+                           const uint8_t *key, size_t key_len,
+                           const uint8_t *nonce, size_t nonce_len,
+                           const uint8_t *header, size_t header_len,
+                           const uint8_t *input, size_t input_len,
+                           uint8_t *output, size_t output_len,
+                           uint64_t *words, size_t words_len);
+
 uint64_t baseline_walk(const uint8_t *start, size_t start_len,
                        const uint8_t *steps, size_t steps_len,
                        uint8_t *output, size_t output_len);

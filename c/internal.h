@@ -12,4 +12,12 @@ static inline uint64_t refuse(uint32_t number, uint32_t place)
     return (uint64_t)number << 32 | place;
 }
 
+/* What the calls that take a message or a parcel check before their output: the refusal, or 0. */
+
+uint64_t baseline_check_message(uint32_t mode, uint32_t rounds, size_t key_len, size_t nonce_len,
+                                size_t header_len, size_t input_len);
+
+uint64_t baseline_check_parcel(uint32_t mode, uint32_t rounds, size_t key_len, size_t nonce_len,
+                               size_t header_len, size_t input_len);
+
 #endif

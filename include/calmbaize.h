@@ -2,26 +2,28 @@
  * Calmbaize: authenticated encryption with OPP and MRO over a masked BLAKE2b
  * permutation, the walk of its masks, and a store of sealed sales.
  *
- * Every call takes buffers of any length as a pointer and a length in bytes,
- * checks all its arguments itself and answers with one number, which
- * calmbaize_refusal(), calmbaize_place(), calmbaize_written() and
- * calmbaize_value() take apart.
+ * Every call takes buffers of any length as a pointer and a length in bytes, or
+ * in words of 64 bits where it points to words, checks all its arguments itself
+ * and answers with one number, which calmbaize_refusal(), calmbaize_place(),
+ * calmbaize_written() and calmbaize_value() take apart.
  *
  *   - A null pointer with length 0 is an empty buffer. With any other length
- *     the pointer must be valid for that many bytes. A pointer that comes
- *     without a length must be valid for what it is declared as.
- *   - Buffers must not overlap: no byte of the output, of the store or of the
- *     total may belong to another argument.
+ *     the pointer must be valid for that many bytes or words. A pointer that
+ *     comes without a length must be valid for what it is declared as. Words
+ *     are aligned as uint64_t is.
+ *   - Buffers must not overlap: no byte of the output, of the words, of the
+ *     store or of the total may belong to another argument.
  *   - Nothing is kept between calls and nothing is allocated. Calls may run at
  *     the same time where nothing that one of them writes belongs to another.
  *   - An answer must be looked at: a refused call leaves the output as it was,
  *     or zero, and the store and the total as they were. Compilers warn where
  *     one is dropped.
  *   - No branch and no address depends on the key, the nonce, the message, the
- *     parcel's content or its tag, or on the start of a walk or jump, but for
- *     this: in calmbaize_convert(), whether the parcel opens under each start,
- *     which the answer tells (checked on x86-64). Time depends on lengths,
- *     settings, step bytes and counts, and in calmbaize_convert() on the answer.
+ *     parcel's content or its tag, on what the words hold, or on the start of a
+ *     walk or jump, but for this: in calmbaize_convert(), whether the parcel
+ *     opens under each start, which the answer tells (checked on x86-64). Time
+ *     depends on lengths, settings, step bytes and counts, and in
+ *     calmbaize_convert() on the answer.
  *   - In the store, none depends on the key, on what a sale's record holds, or
  *     on its sealed bytes and tag, but for this: whether a sale opens, which the
  *     answer tells (checked on x86-64). Time depends on its length, indices,
@@ -34,9 +36,9 @@
 #include <stdint.h>
 
 /* The version, as text and as one number that grows. */
-#define CALMBAIZE_VERSION "0.5.0"
+#define CALMBAIZE_VERSION "0.6.0"
 #define CALMBAIZE_VERSION_MAJOR 0
-#define CALMBAIZE_VERSION_MINOR 5
+#define CALMBAIZE_VERSION_MINOR 6
 #define CALMBAIZE_VERSION_PATCH 0
 #define CALMBAIZE_VERSION_NUMBER \
     (CALMBAIZE_VERSION_MAJOR * 1000000 + CALMBAIZE_VERSION_MINOR * 1000 + CALMBAIZE_VERSION_PATCH)
@@ -90,6 +92,9 @@ extern "C" {
 #define CALMBAIZE_NONCE_TAIL_BYTES 8U
 #define CALMBAIZE_CLOCK_BYTES 6U
 
+/* The longest run, in words of 64 bits; calmbaize_run_words() tells the length of each. */
+#define CALMBAIZE_RUN_WORDS_MAX 533U
+
 /* Steps in one walk, and the bound on each net count of a jump. */
 #define CALMBAIZE_STEPS_MAX 4096U
 #define CALMBAIZE_COUNT_MAX 65536
@@ -99,6 +104,8 @@ extern "C" {
 #define CALMBAIZE_OPEN_STACK_BYTES 4096U
 #define CALMBAIZE_OPEN_OLD_STACK_BYTES 4096U
 #define CALMBAIZE_CONVERT_STACK_BYTES 4096U
+#define CALMBAIZE_SEAL_RUN_STACK_BYTES 12288U
+#define CALMBAIZE_OPEN_RUN_STACK_BYTES 12288U
 #define CALMBAIZE_WALK_STACK_BYTES 8192U
 #define CALMBAIZE_JUMP_STACK_BYTES 8192U
 #define CALMBAIZE_STORE_FORMAT_STACK_BYTES 1024U
@@ -131,7 +138,7 @@ extern "C" {
 #define CALMBAIZE_REFUSED_NONCE_LENGTH 4U     /* nonce not 16 bytes */
 #define CALMBAIZE_REFUSED_HEADER_TOO_LONG 5U  /* header over 4,096 bytes */
 #define CALMBAIZE_REFUSED_INPUT_TOO_LONG 6U   /* message over 65,536 bytes, parcel over 65,568 */
-#define CALMBAIZE_REFUSED_OUTPUT_TOO_SHORT 7U /* output shorter than success writes */
+#define CALMBAIZE_REFUSED_OUTPUT_TOO_SHORT 7U /* output or words shorter than success writes */
 #define CALMBAIZE_REFUSED_INPUT_TOO_SHORT 8U  /* parcel under 32 bytes */
 #define CALMBAIZE_REFUSED_TAG 9U              /* tag differs; of a sale, in the cell at the place */
 #define CALMBAIZE_REFUSED_START_LENGTH 10U    /* start not 128 bytes */
@@ -159,7 +166,7 @@ static inline uint32_t calmbaize_place(uint64_t answer)
     return calmbaize_refusal(answer) == CALMBAIZE_OK ? 0 : (uint32_t)answer;
 }
 
-/* The bytes written by seal, either open, convert, walk or jump; 0 where the call was refused. */
+/* The bytes written by a call that has an output; 0 where the call was refused. */
 static inline size_t calmbaize_written(uint64_t answer)
 {
     return calmbaize_refusal(answer) == CALMBAIZE_OK ? (size_t)answer : 0;
@@ -252,6 +259,62 @@ uint64_t calmbaize_convert(uint32_t mode, uint32_t rounds,
                            const uint8_t *header, size_t header_len,
                            const uint8_t *input, size_t input_len,
                            uint8_t *output, size_t output_len);
+
+/*
+ * The words that calmbaize_seal_run() and calmbaize_open_run() need: one for each
+ * whole block of the longer of header and message, and 21. For lengths that these
+ * calls take it is at most CALMBAIZE_RUN_WORDS_MAX. Keep the words private, and
+ * overwrite them when done.
+ */
+static inline size_t calmbaize_run_words(size_t header_len, size_t message_len)
+{
+    return (header_len > message_len ? header_len : message_len) / CALMBAIZE_BLOCK_BYTES + 21U;
+}
+
+/*
+ * Does what calmbaize_seal() does, with the same parcel, and takes all masks from
+ * one run of words, which it makes in the words lent. It works on four blocks in a
+ * turn, which the archive for x86-64-v3 gains from.
+ *
+ * What the words hold before does not matter. Success leaves the run in the first
+ * calmbaize_run_words(header_len, input_len) of them, and the rest unchanged. The
+ * masks are as secret as the key: keep the words private, and overwrite them when
+ * done.
+ *
+ * Refused, in this order, with 1, 2, 3, 4, 5, 6, and 7 where the output is shorter
+ * than the parcel or the words are fewer than the run; then no byte and no word
+ * changes.
+ */
+CALMBAIZE_NODISCARD
+uint64_t calmbaize_seal_run(uint32_t mode, uint32_t rounds,
+                            const uint8_t *key, size_t key_len,
+                            const uint8_t *nonce, size_t nonce_len,
+                            const uint8_t *header, size_t header_len,
+                            const uint8_t *input, size_t input_len,
+                            uint8_t *output, size_t output_len,
+                            uint64_t *words, size_t words_len);
+
+/*
+ * Does what calmbaize_open() does, and takes all masks from one run of words, as
+ * calmbaize_seal_run() does.
+ *
+ * What the words hold before does not matter. Success leaves the run in the first
+ * calmbaize_run_words(header_len, input_len - 32) of them, and the rest unchanged;
+ * so does refusal 9. Keep the words private, and overwrite them when done.
+ *
+ * Refused, in this order, with 1, 2, 3, 4, 5, 8, 6, with 7 where the output is
+ * shorter than the message or the words are fewer than the run, and with 9. On 9
+ * the bytes that the message would have filled are zero and the rest is unchanged;
+ * on every other refusal no byte and no word changes.
+ */
+CALMBAIZE_NODISCARD
+uint64_t calmbaize_open_run(uint32_t mode, uint32_t rounds,
+                            const uint8_t *key, size_t key_len,
+                            const uint8_t *nonce, size_t nonce_len,
+                            const uint8_t *header, size_t header_len,
+                            const uint8_t *input, size_t input_len,
+                            uint8_t *output, size_t output_len,
+                            uint64_t *words, size_t words_len);
 
 /*
  * Takes the steps of a list, one after the other, from a start block.

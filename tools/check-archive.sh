@@ -54,8 +54,9 @@ result "calls outside" "$(symbols --undefined-only | names |
     grep -vxE 'mem(cpy|set|move|cmp)|_GLOBAL_OFFSET_TABLE_' || true)"
 # Data that can be written would be state kept between calls.
 result "neither code nor constant" "$(symbols --defined-only | grep -v '^[TtRr] ' | names)"
-# tools/kit.sh has it inlined; a call of it for each block costs OPP a good part of its time.
-result "left as a call" "$(symbols --defined-only | names | grep '^permutation' || true)"
+# tools/compile.sh has it inlined, for one block and for four; a call for each block costs OPP a good part
+# of its time.
+result "left as a call" "$(symbols --defined-only | names | grep -E '^(permutation|lanes)' || true)"
 
 echo "$passed passed, $failed failed"
 [ "$failed" -eq 0 ]

@@ -1,31 +1,32 @@
 #!/bin/sh
 # Each constant of calmbaize.h says what the archive does, and each has a check.
 #
-# usage: check-constants.sh [FOLDER]
+# usage: check-constants.sh [FOLDER [INCLUDE]]
 #
-# FOLDER holds the archive and the header, dist/ if it is not given.
+# FOLDER holds the archive, dist/ if it is not given, and INCLUDE the header, FOLDER if it is not given.
 set -u
 
 root=$(cd "$(dirname "$0")/.." && pwd)
 folder=${1:-$root/dist}
+include=${2:-$folder}
 work=$(mktemp -d) || exit 2
 trap 'rm -rf "$work"' EXIT
 # What these state is no answer of a call: the checks of the header, of the stack and of what is
 # installed hold them.
 elsewhere='CALMBAIZE_(H|VERSION(_[A-Z]+)?|NODISCARD|[A-Z_]+_STACK_BYTES|FORMAT)'
 
-for file in libcalmbaize.a calmbaize.h; do
-    if [ ! -f "$folder/$file" ]; then
-        echo "check-constants: $folder/$file is missing: run make" >&2
+for file in "$folder/libcalmbaize.a" "$include/calmbaize.h"; do
+    if [ ! -f "$file" ]; then
+        echo "check-constants: $file is missing: run make" >&2
         exit 2
     fi
 done
-"${CC:-cc}" -std=c99 -O1 -Wall -Wextra -I "$folder" "$root/tools/constants.c" \
+"${CC:-cc}" -std=c99 -O1 -Wall -Wextra -I "$include" "$root/tools/constants.c" \
     "$folder/libcalmbaize.a" -o "$work/constants" || exit 2
 "$work/constants" > "$work/log" || exit 2
 
 sed -nE 's/^[[:space:]]*#[[:space:]]*define[[:space:]]+(CALMBAIZE_[A-Za-z0-9_]+).*/\1/p' \
-    "$folder/calmbaize.h" | grep -vxE "$elsewhere" | sort -u > "$work/names"
+    "$include/calmbaize.h" | grep -vxE "$elsewhere" | sort -u > "$work/names"
 sed 's/^[a-z]* //' "$work/log" | sort -u > "$work/tried"
 {
     sed -n 's/^failed /not what the archive does: /p' "$work/log"

@@ -1,6 +1,6 @@
 #!/bin/sh
 # Compiles calmbaize.h by itself as C and C++, every warning an error, and checks the constants, the
-# version, the way an answer is taken apart, and that a dropped answer is warned of.
+# version, the way an answer is taken apart, the length of a run, and that a dropped answer is warned of.
 #
 # usage: check-header.sh [FOLDER]
 #
@@ -47,6 +47,9 @@ int main(void)
              calmbaize_written(step) == 0U && calmbaize_value(step) == 0U &&
              calmbaize_value(amount) == UINT32_MAX && calmbaize_refusal(parcel) == CALMBAIZE_OK &&
              calmbaize_place(parcel) == 0U && calmbaize_written(parcel) == 65568U &&
+             calmbaize_run_words(127U, 0U) == 21U && calmbaize_run_words(128U, 1000U) == 28U &&
+             calmbaize_run_words(CALMBAIZE_HEADER_BYTES_MAX, 0U) == 53U &&
+             calmbaize_run_words(0U, CALMBAIZE_MESSAGE_BYTES_MAX) == CALMBAIZE_RUN_WORDS_MAX &&
              strcmp(CALMBAIZE_VERSION, VERSION) == 0);
 }
 END

@@ -25,6 +25,7 @@ static uint8_t parcel[CALMBAIZE_SEALED_BYTES_MAX + 1], output[CALMBAIZE_SEALED_B
 static uint8_t start[BLOCK + 1], steps[CALMBAIZE_STEPS_MAX + 1];
 static uint8_t tail[CALMBAIZE_NONCE_TAIL_BYTES + 1], hour[CALMBAIZE_CLOCK_BYTES + 1];
 static uint8_t store[CALMBAIZE_STORE_BYTES_MAX + CELL];
+static uint64_t words[CALMBAIZE_RUN_WORDS_MAX + 1];
 
 /* The arguments, one of which gets another value than the usual one in each call below. */
 enum argument { MODE, ROUNDS, KEY, NONCE, HEADER, INPUT, OUTPUT, START, STEPS, ARGUMENTS };
@@ -68,6 +69,22 @@ static uint64_t convert(enum argument other, size_t value)
     a[other] = value;
     return calmbaize_convert(CALMBAIZE_MODE_OPP, round_counts[0], key, CALMBAIZE_KEY_BYTES, nonce,
                              CALMBAIZE_NONCE_BYTES, header, 0, parcel, a[INPUT], output, a[OUTPUT]);
+}
+
+/* Into the parcel, with so many words. */
+static uint64_t seal_run(size_t header_len, size_t len, size_t count)
+{
+    return calmbaize_seal_run(CALMBAIZE_MODE_OPP, round_counts[0], key, CALMBAIZE_KEY_BYTES, nonce,
+                              CALMBAIZE_NONCE_BYTES, header, header_len, message, len, parcel,
+                              sizeof parcel, words, count);
+}
+
+/* Of the parcel, with so many words. */
+static uint64_t open_run(size_t header_len, size_t len, size_t count)
+{
+    return calmbaize_open_run(CALMBAIZE_MODE_OPP, round_counts[0], key, CALMBAIZE_KEY_BYTES, nonce,
+                              CALMBAIZE_NONCE_BYTES, header, header_len, parcel, len + TAG, output,
+                              sizeof output, words, count);
 }
 
 /* Of no steps. */
@@ -128,6 +145,28 @@ static void lengths(void)
     HOLD(CALMBAIZE_SEALED_BYTES_MAX,
          wrote(seal(INPUT, CALMBAIZE_MESSAGE_BYTES_MAX), CALMBAIZE_SEALED_BYTES_MAX) &&
              most(open, INPUT, CALMBAIZE_SEALED_BYTES_MAX, CALMBAIZE_REFUSED_INPUT_TOO_LONG));
+}
+
+/* So many words are enough for both calls, and one less is refused. */
+static int words_needed(size_t header_len, size_t len, size_t count)
+{
+    return calmbaize_run_words(header_len, len) == count &&
+           wrote(seal_run(header_len, len, count), len + TAG) &&
+           wrote(open_run(header_len, len, count), len) &&
+           refused(seal_run(header_len, len, count - 1), CALMBAIZE_REFUSED_OUTPUT_TOO_SHORT) &&
+           refused(open_run(header_len, len, count - 1), CALMBAIZE_REFUSED_OUTPUT_TOO_SHORT);
+}
+
+/* The longest message has the longest run; the longest header has a shorter one. */
+static void lengths_of_runs(void)
+{
+    const size_t longest = CALMBAIZE_RUN_WORDS_MAX;
+    const size_t less = (CALMBAIZE_MESSAGE_BYTES_MAX - CALMBAIZE_HEADER_BYTES_MAX) / BLOCK;
+
+    HOLD(CALMBAIZE_RUN_WORDS_MAX,
+         words_needed(CALMBAIZE_HEADER_BYTES_MAX, CALMBAIZE_MESSAGE_BYTES_MAX, longest) &&
+             words_needed(0, CALMBAIZE_MESSAGE_BYTES_MAX - 1, longest - 1) &&
+             words_needed(CALMBAIZE_HEADER_BYTES_MAX, BLOCK, longest - less));
 }
 
 /* A store of so many cells in which all are free. */
@@ -349,6 +388,7 @@ static void refusals_of_lengths_and_settings(void)
     REFUSE(CALMBAIZE_REFUSED_INPUT_TOO_LONG, seal(INPUT, sizeof message));
     REFUSE(CALMBAIZE_REFUSED_OUTPUT_TOO_SHORT, seal(OUTPUT, TAG - 1));
     REFUSE(CALMBAIZE_REFUSED_OUTPUT_TOO_SHORT, convert(OUTPUT, TAG - 1));
+    REFUSE(CALMBAIZE_REFUSED_OUTPUT_TOO_SHORT, seal_run(0, 0, 0));
     REFUSE(CALMBAIZE_REFUSED_INPUT_TOO_SHORT, open(INPUT, TAG - 1));
     REFUSE(CALMBAIZE_REFUSED_INPUT_TOO_SHORT, convert(INPUT, TAG - 1));
     REFUSE(CALMBAIZE_REFUSED_START_LENGTH, walk(START, 0));
@@ -375,6 +415,7 @@ int main(void)
     for (size_t i = 0; i < sizeof start; i++)
         start[i] = (uint8_t)(i * i + 1);
     lengths();
+    lengths_of_runs();
     store_lengths();
     bounds_of_steps();
     modes_and_steps();

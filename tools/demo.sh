@@ -1,7 +1,7 @@
 #!/bin/sh
-# The main job with the command line tool: seals a sale, opens it, shows that a damaged parcel is
-# refused, opens a parcel of an earlier version and converts it, alone and in a folder, steps a mask
-# on and back in two orders, and keeps sales in a store.
+# The main job with the command line tool: seals a sale by both engines, opens it, shows that a
+# damaged parcel is refused, opens a parcel of an earlier version and converts it, alone and in a
+# folder, steps a mask on and back in two orders, and keeps sales in a store.
 #
 # usage: demo.sh CALMBAIZE
 #
@@ -26,6 +26,9 @@ settings="--key-file key --nonce-file nonce --mode mro --rounds 6"
 echo "a sale of 13 bytes:   $(hex sale)"
 "$tool" seal $settings --input sale --output parcel
 echo "sealed, 45 bytes:     $(hex parcel | cut -c 1-40)..."
+"$tool" seal $settings --engine run --input sale --output run
+echo "by --engine run:      $(hex run | cut -c 1-40)..."
+cmp parcel run
 "$tool" open $settings --input parcel --output opened
 echo "opened:               $(hex opened)"
 cmp sale opened

@@ -1,7 +1,7 @@
 /*
- * A program as a user writes it, over what make install put there: seals and opens, opens and converts
- * parcels of the format before, takes a sale and cancels it, and holds the parcels and the sale to the
- * bytes of their format.
+ * A program as a user writes it, over what make install put there: seals and opens, by steps and from a
+ * run, opens and converts parcels of the format before, takes a sale and cancels it, and holds the
+ * parcels and the sale to the bytes of their format.
  */
 #include <stdio.h>
 #include <string.h>
@@ -47,6 +47,8 @@ static const uint8_t header[] = {'p', 'o', 's', 't'}, message[MESSAGE] = {'s', '
 static uint8_t key[CALMBAIZE_KEY_BYTES], nonce[CALMBAIZE_NONCE_BYTES];
 static uint8_t tail[CALMBAIZE_NONCE_TAIL_BYTES], hour[CALMBAIZE_CLOCK_BYTES];
 static uint8_t store[3 * CALMBAIZE_CELL_BYTES];
+/* As secret as the key. */
+static uint64_t words[CALMBAIZE_RUN_WORDS_MAX];
 
 /* The key, the nonces and the clock have the bytes 0, 1, 2 and so on. */
 static void count_up(uint8_t *bytes, size_t len)
@@ -55,11 +57,31 @@ static void count_up(uint8_t *bytes, size_t len)
         bytes[i] = (uint8_t)i;
 }
 
-static int sealed_as_stated(uint32_t mode, const uint8_t stated[PARCEL])
+/* The calls that seal or open. */
+typedef uint64_t call(uint32_t, uint32_t, const uint8_t *, size_t, const uint8_t *, size_t,
+                      const uint8_t *, size_t, const uint8_t *, size_t, uint8_t *, size_t);
+
+static uint64_t seal_run(uint32_t mode, uint32_t rounds, const uint8_t *k, size_t k_len,
+                         const uint8_t *n, size_t n_len, const uint8_t *h, size_t h_len,
+                         const uint8_t *in, size_t in_len, uint8_t *out, size_t out_len)
+{
+    return calmbaize_seal_run(mode, rounds, k, k_len, n, n_len, h, h_len, in, in_len, out, out_len,
+                              words, calmbaize_run_words(h_len, in_len));
+}
+
+static uint64_t open_run(uint32_t mode, uint32_t rounds, const uint8_t *k, size_t k_len,
+                         const uint8_t *n, size_t n_len, const uint8_t *h, size_t h_len,
+                         const uint8_t *in, size_t in_len, uint8_t *out, size_t out_len)
+{
+    return calmbaize_open_run(mode, rounds, k, k_len, n, n_len, h, h_len, in, in_len, out, out_len,
+                              words, calmbaize_run_words(h_len, in_len - CALMBAIZE_TAG_BYTES));
+}
+
+static int sealed_as_stated(call *seal, uint32_t mode, const uint8_t stated[PARCEL])
 {
     uint8_t parcel[PARCEL];
-    uint64_t answer = calmbaize_seal(mode, ROUNDS, key, sizeof key, nonce, sizeof nonce, header,
-                                     sizeof header, message, MESSAGE, parcel, PARCEL);
+    uint64_t answer = seal(mode, ROUNDS, key, sizeof key, nonce, sizeof nonce, header, sizeof header,
+                           message, MESSAGE, parcel, PARCEL);
 
     return calmbaize_written(answer) == PARCEL && memcmp(parcel, stated, PARCEL) == 0;
 }
@@ -77,12 +99,8 @@ static int converted_as_stated(uint32_t mode, const uint8_t old[PARCEL], const u
            calmbaize_refusal(refusal) == CALMBAIZE_REFUSED_DONE_ALREADY;
 }
 
-/* Both calls that open. */
-typedef uint64_t opening(uint32_t, uint32_t, const uint8_t *, size_t, const uint8_t *, size_t,
-                         const uint8_t *, size_t, const uint8_t *, size_t, uint8_t *, size_t);
-
 /* The one opens the parcel, and the other refuses it. */
-static int opened_by(opening *one, opening *other, uint32_t mode, const uint8_t parcel[PARCEL])
+static int opened_by(call *one, call *other, uint32_t mode, const uint8_t parcel[PARCEL])
 {
     uint8_t opened[MESSAGE], refused[MESSAGE];
     uint64_t message_of = one(mode, ROUNDS, key, sizeof key, nonce, sizeof nonce, header,
@@ -100,9 +118,12 @@ static int parcels_as_stated(void)
     int hold = 1;
 
     for (int i = 0; i < 2; i++)
-        hold = hold && sealed_as_stated(modes[i], parcels[i]) &&
+        hold = hold && sealed_as_stated(calmbaize_seal, modes[i], parcels[i]) &&
+               sealed_as_stated(seal_run, modes[i], parcels[i]) &&
                opened_by(calmbaize_open, calmbaize_open_old, modes[i], parcels[i]) &&
+               opened_by(open_run, calmbaize_open_old, modes[i], parcels[i]) &&
                opened_by(calmbaize_open_old, calmbaize_open, modes[i], old_parcels[i]) &&
+               opened_by(calmbaize_open_old, open_run, modes[i], old_parcels[i]) &&
                converted_as_stated(modes[i], old_parcels[i], parcels[i]);
     return hold;
 }
@@ -143,6 +164,7 @@ int main(void)
     count_up(tail, sizeof tail);
     count_up(hour, sizeof hour);
     parcels_hold = parcels_as_stated();
+    memset(words, 0, sizeof words);
     store_holds = stored_as_stated();
     if (!parcels_hold)
         printf("  the parcels are not those of format %d, or of the format before\n", CALMBAIZE_FORMAT);

@@ -1,12 +1,10 @@
 #!/bin/sh
-# Makes a folder that stands for the prover's kit and differs from it in one thing: its compiler inlines
-# calls that it would else leave. Prints the folder's path, for RATTLE_HOME.
+# Makes a folder that stands for the prover's kit and differs from it in one thing: its compiler is
+# compile.sh, which gives the kit's own one more options. Prints the folder's path, for RATTLE_HOME.
 #
-# usage: kit.sh FOLDER
+# usage: kit.sh FOLDER [wide]
 #
-# The permutation and its way back have several callers, so that the compiler by itself leaves a call for
-# each block of a message, which costs OPP with four rounds a fifth to a third of its time. The prover has
-# no option for that.
+# By wide the archive is for x86-64-v3, processors with AVX2; else it is for every x86-64.
 set -eu
 
 rt=$(readlink -f "$(command -v rt)")
@@ -18,11 +16,13 @@ fi
 # Where that is such a folder already, the kit behind it.
 home=$(dirname "$(readlink -f "$home/KIT-ID")")
 own=on/$(uname -m)
-compiler=$own/toolchain/bin/clang
-if [ ! -x "$home/$compiler" ]; then
-    echo "kit.sh: no compiler at $home/$compiler" >&2
+bin=$own/toolchain/bin
+if [ ! -x "$home/$bin/clang" ]; then
+    echo "kit.sh: no compiler at $home/$bin/clang" >&2
     exit 2
 fi
+compile=$(cd "$(dirname "$0")" && pwd)/compile.sh
+kind=${2:-baseline}
 
 # linked FOLDER BUT: links what stands in that folder of the kit, but for one name.
 linked() {
@@ -38,10 +38,10 @@ cd "$1"
 linked . on
 linked "$own" toolchain
 linked "$own/toolchain" bin
-linked "$own/toolchain/bin" clang
-cat >"$compiler" <<CLANG
+linked "$bin" clang
+cat >"$bin/clang" <<CLANG
 #!/bin/sh
-exec '$home/$compiler' "\$@" -mllvm -inline-threshold=3000
+exec '$compile' '$home/$bin' '$kind' "\$@"
 CLANG
-chmod +x "$compiler"
+chmod +x "$bin/clang"
 pwd -P

@@ -89,6 +89,16 @@ planted_constants() {
     planted_dist constants "$1" calmbaize.h "$2"
 }
 
+# vectors STATUS NAME REGISTERS SED-SCRIPT: what the check of the vector loops says of such run calls.
+vectors() {
+    mkdir -p "$faulty"
+    sed "$4" "$work/vectors.s" > "$work/faulty.s"
+    "${CC:-cc}" -c "$work/faulty.s" -o "$work/faulty.o" || exit 2
+    rm -f "$faulty/libcalmbaize.a"
+    ar crs "$faulty/libcalmbaize.a" "$work/faulty.o"
+    expect "$1" "vectors: $2" "$root/tools/check-vectors.sh" "$faulty" "$3"
+}
+
 # copy_root: the repository without what was built, in the folder copy.
 copy_root() {
     rm -rf "$work/copy"
@@ -141,10 +151,10 @@ planted "tag compared by an early exit" \
     's/difference |= \(.*\);/if ((\1) != 0) return 1;/' \
     "$root/tools/check-secrets.sh" "$faulty" 1
 planted "a branch on the message" \
-    '/^static void opp_seal/,/^}/s/xor_into(check, block);/if (block[0] == 1) { volatile int x = 1; (void)x; } &/' \
+    '/^static void opp_seal(/,/^}/s/xor_into(check, block);/if (block[0] == 1) { volatile int x = 1; (void)x; } &/' \
     "$root/tools/check-secrets.sh" "$faulty" 1
 planted "a branch on the key" \
-    '/^static void start_block/,/^}/s/load(start, bytes);/if (key[0] == 1) { volatile int x = 1; (void)x; } &/' \
+    '/^static inline void start_block/,/^}/s/load(start, bytes);/if (key[0] == 1) { volatile int x = 1; (void)x; } &/' \
     "$root/tools/check-secrets.sh" "$faulty" 1
 planted "a branch on the start of a walk" \
     '/^uint64_t baseline_walk/,/^}/s/load(m, start);/if (start[0] == 1) { volatile int x = 1; (void)x; } &/' \
@@ -176,7 +186,7 @@ planted "an address made of the amount" \
 expect 1 "an address made of the amount, in the trace" "$root/tools/check-traces.sh" "$faulty"
 # Beside the branch on the tag it would be one too many for the count, so that one goes by masks here.
 cat > "$work/total.sed" << 'END'
-/^static uint64_t open_from/,/^}/ {
+/^static inline uint64_t opened/,/^}/ {
     s/if (\(tag_differs(.*)\)) {/uint64_t bad = -(uint64_t)\1; {/
     s/if (len > 0)/for (size_t i = 0; i < len; i++)/
     s/memset(output, 0, len)/output[i] \&= (uint8_t)~bad/
@@ -214,6 +224,30 @@ END
 planted "a branch on the tag in place of that on the new start" "$(cat "$work/convert.sed")" \
     "$root/tools/check-traces.sh" "$faulty"
 expect 0 "that branch, by its count" "$root/tools/check-secrets.sh" "$faulty" 1
+planted "a branch on the message sealed from a run" \
+    '/^static void opp_seal_run/,/^}/s/xor_into(check, block);/if (block[0] == 1) { volatile int x = 1; (void)x; } &/' \
+    "$root/tools/check-secrets.sh" "$faulty" 1
+planted "a branch on the tag of a parcel opened from a run" \
+    '/^uint64_t baseline_open_run/,/^}/s/start_block(0, /if (input[len] == 1) { volatile int x = 1; (void)x; } &/' \
+    "$root/tools/check-secrets.sh" "$faulty" 1
+planted "a branch on a word of the run" \
+    's/m\[t\] = words\[t\];/if (words[t] == 1) { volatile int x = 1; (void)x; } &/' \
+    "$root/tools/check-secrets.sh" "$faulty" 1
+planted "a branch on what the words held" \
+    '/^uint64_t baseline_seal_run/,/^}/s/start_block(0, /if (words[0] == 1) { volatile int x = 1; (void)x; } &/' \
+    "$root/tools/check-secrets.sh" "$faulty" 1
+planted "an address made of what the words held" \
+    '/^uint64_t baseline_open_run/,/^}/s/start_block(0, /volatile uint8_t x = nonce[words[count] % NONCE]; (void)x; &/' \
+    "$root/tools/check-secrets.sh" "$faulty" 1
+planted "a deep stack in seal_run" \
+    '/^uint64_t baseline_seal_run/,/^}/s/start_block(0, /volatile uint8_t deep[13000]; deep[0] = 0; &/' \
+    "$root/tools/check-stack.sh" "$faulty"
+planted "a deep stack in open_run, with three blocks beside four" \
+    '/^uint64_t baseline_open_run/,/^}/s/start_block(0, /volatile uint8_t deep[len \/ BLOCK % 4 == 3 ? 13000 : 1]; deep[0] = 0; &/' \
+    "$root/tools/check-stack.sh" "$faulty"
+planted "rounds that no check tries, from a run" \
+    '/^uint64_t baseline_seal_run/,/^}/s/check_message(mode, rounds,/check_message(mode, rounds == 10 ? 4 : rounds,/' \
+    "$root/tools/check-stack.sh" "$faulty"
 planted "a deep stack in convert" \
     '/^uint64_t baseline_convert/,/^}/s/start_block(1, /volatile uint8_t deep[9000]; deep[0] = 0; &/' \
     "$root/tools/check-stack.sh" "$faulty"
@@ -221,7 +255,7 @@ planted "a deep stack under the old start" \
     '/^uint64_t baseline_open_old/,/^}/s/return/volatile uint8_t deep[9000]; deep[0] = 0; &/' \
     "$root/tools/check-stack.sh" "$faulty"
 planted "a deep stack" \
-    '/^static void start_block/,/^}/s/load(start, bytes);/volatile uint8_t deep[9000]; deep[0] = 0; &/' \
+    '/^static inline void start_block/,/^}/s/load(start, bytes);/volatile uint8_t deep[9000]; deep[0] = 0; &/' \
     "$root/tools/check-stack.sh" "$faulty"
 planted "rounds that no check tries" \
     's/= check_settings(mode, rounds,/= check_settings(mode, rounds == 10 ? 4 : rounds,/' \
@@ -247,9 +281,43 @@ planted "a table that is not local" \
 planted "the permutation left as a call" \
     's/\bpermute(/permutation(/g; s/^static inline void permutation(/static __attribute__((noinline)) void permutation(/' \
     "$root/tools/check-archive.sh" "$faulty"
+planted "the permutation of four blocks left as a call" \
+    's/\bunpermute(/lanes(/g; s/^static inline void lanes(/static __attribute__((noinline)) void lanes(/' \
+    "$root/tools/check-archive.sh" "$faulty"
 planted "a call under another name" \
     's/^uint64_t baseline_jump/uint64_t calmbaize_leap/' \
     "$root/tools/check-archive.sh" "$faulty"
+# Run calls with as many loops as they must have, those of seal_run in a function that it calls.
+cat > "$work/vectors.s" << 'END'
+.macro loops instruction, count
+.rept \count
+.rept 64
+\instruction %xmm1, %xmm0
+.endr
+jne .
+.endr
+.endm
+.section .text.sealing, "ax"
+sealing:
+loops paddq, 3
+ret
+.text
+.globl calmbaize_seal_run, calmbaize_open_run
+calmbaize_seal_run:
+call sealing
+ret
+calmbaize_open_run:
+loops paddq, 2
+loops psubq, 1
+ret
+END
+vectors 0 "xmm registers" xmm ''
+vectors 0 "ymm registers" ymm 's/rept 64/rept 32/; s/\\instruction .*/v\\instruction %ymm2, %ymm1, %ymm0/'
+vectors 1 "xmm registers for x86-64-v3" ymm 's/rept 64/rept 32/; s/\\instruction .*/v\\instruction %xmm2, %xmm1, %xmm0/'
+vectors 1 "a pass of seal_run that has none" xmm 's/paddq, 3/paddq, 2/'
+vectors 1 "no way back in open_run" xmm 's/psubq, 1/psubq, 0/'
+vectors 1 "a part of a round" xmm 's/rept 64/rept 63/'
+expect 1 "vectors: one block in a turn" "$root/tools/check-vectors.sh" "$work/sound"
 planted "a call that ends the program" \
     '/^uint64_t baseline_walk/,/^}/s/load(m, start);/extern void exit(int); exit(0); &/' \
     compare "$faulty" guard
@@ -263,13 +331,13 @@ planted "a byte written past a parcel that convert makes" \
     '/^uint64_t baseline_convert/,/^}/s/return input_len;/volatile uint8_t *past = output + input_len; *past = *past; &/' \
     compare "$faulty" guard
 planted "one byte too many cleared" \
-    's/memset(output, 0, len)/memset(output, 0, len + (len < output_len))/' \
+    '/^static uint64_t open_from/,/^}/s/return \(opened(.*)\);/uint64_t answer = \1; if (answer >> 32 == 9 \&\& len < output_len) output[len] = 0; return answer;/' \
     compare "$faulty" damage
 planted "nothing cleared" \
     's/memset(output, 0, len)/(void)output/' \
     compare "$faulty" damage
 planted "24 bytes of the tag compared" \
-    '/^static int tag_differs/,/^}/s/i < 4/i < 3/' \
+    '/^static inline int tag_differs/,/^}/s/i < 4/i < 3/' \
     compare "$faulty" damage
 planted "two rotations in alpha" \
     's/rotl(m\[0\], 53) ^ m\[5\] << 13/rotl(m[0], 53) ^ rotl(m[5], 13)/' \
@@ -281,10 +349,10 @@ planted "walk and jump that both refuse" \
     '/^uint64_t baseline_walk/,/^}/s/if (output_len < BLOCK)/if (steps_len != 1)/; /^uint64_t baseline_jump/,/^}/s/if (output_len < BLOCK)/if (1)/' \
     compare "$faulty" masks
 planted "a check out of order" \
-    '/^static uint64_t open_from/,/^}/s/= check_parcel(/= output_len + TAG < input_len ? refuse(7, 0) : check_parcel(/' \
+    '/^static uint64_t open_from/,/^}/s/baseline_check_parcel(/output_len + TAG < input_len ? refuse(7, 0) : &/' \
     compare "$faulty" grounds
 planted "a check of convert out of order" \
-    '/^uint64_t baseline_convert/,/^}/s/= check_parcel(/= output_len < input_len ? refuse(7, 0) : check_parcel(/' \
+    '/^uint64_t baseline_convert/,/^}/s/baseline_check_parcel(/output_len < input_len ? refuse(7, 0) : &/' \
     compare "$faulty" grounds
 planted "room for the message enough for convert" \
     '/^uint64_t baseline_convert/,/^}/s/if (output_len < input_len)/if (output_len < len)/' \
@@ -340,6 +408,45 @@ planted "sealed again under the old start" \
 planted "sealed again without the header" \
     's/seal_parcel(mode, rounds, new_start, header, header_len/seal_parcel(mode, rounds, new_start, header, 0/' \
     compare "$faulty" edges
+planted "a word written past the words" \
+    '/^uint64_t baseline_seal_run/,/^}/s/grow_run(.*);/& volatile uint64_t *past = words + count; *past = *past;/' \
+    compare "$faulty" guard
+planted "words written however few they are" \
+    's/ || words_len < count)/)/' \
+    compare "$faulty" guard
+planted "the run taken away where the tag differs" \
+    '/^uint64_t baseline_open_run/,/^}/s/return \(opened(.*)\);/uint64_t answer = \1; if (answer >> 32 == 9) memset(words, 0, count * sizeof *words); return answer;/' \
+    compare "$faulty" damage
+planted "a run from word n + 6" \
+    's/= next_word(words + n);/= rotl(words[n], 53) ^ words[n + 6] << 13;/' \
+    compare "$faulty" masks
+planted "one word too few taken" \
+    's/words_len < count)/words_len + 1 < count)/' \
+    compare "$faulty" grounds
+planted "the words checked before the input" \
+    '/^uint64_t baseline_open_run/,/^}/s/if (refusal != 0)/if (refusal >> 32 == 6 \&\& words_len < count) return refuse(7, 0); &/' \
+    compare "$faulty" grounds
+planted "a run for the message alone" \
+    's/(header_len > len ? header_len : len)/len/' \
+    compare "$faulty" known
+planted "a run that the old words go into" \
+    's/words\[n + WORDS\] = next_word/words[n + WORDS] ^= next_word/' \
+    compare "$faulty" random
+planted "a run taken as grown where the words begin with the start" \
+    's/memcpy(words, start, BLOCK);/if (memcmp(words, start, BLOCK) == 0) return; &/' \
+    compare "$faulty" run
+planted "a word behind the run changed" \
+    '/^uint64_t baseline_open_run/,/^}/s/grow_run(.*);/& if (words_len > count) words[count] = 0;/' \
+    compare "$faulty" run
+planted "a word changed where the output is too short" \
+    '/^uint64_t baseline_seal_run/,/^}/s/return refuse(7, 0);/{ if (words_len > 0) words[0] = 0; return refuse(7, 0); }/' \
+    compare "$faulty" edges
+planted "a block under the mask of the next one" \
+    's/^        run_mask(m, words, GAMMA);/        run_mask(m, words + (len \/ BLOCK == 6), GAMMA);/' \
+    compare "$faulty" run
+planted "the third block from the end left out of the tag" \
+    '/^static inline void absorb_run/,/^}/s/^        xor_into(sum, block);/        if (len \/ BLOCK != 3) xor_into(sum, block);/' \
+    compare "$faulty" run
 planted "a round count in the old start" \
     's/if (!old) {/if (old) start[10] = rounds; &/' \
     compare "$faulty" known
@@ -401,6 +508,9 @@ planted "an index read past the last cell" \
 planted "another start, in the cases" \
     's/start\[11\] = 8 \* TAG;/start[11] = TAG;/' \
     compare "$faulty" vectors "$root"/rust/compare/cases/*.txt
+planted "a run of the old start, in the cases" \
+    '/^uint64_t baseline_seal_run/,/^}/s/start_block(0, /start_block(1, /' \
+    compare "$faulty" vectors "$root"/rust/compare/cases/card-06.txt
 planted "another start under the same format" \
     's/start\[11\] = 8 \* TAG;/start[11] = TAG;/' \
     "$root/tools/check-install.sh" "$faulty"
@@ -410,15 +520,27 @@ planted "parcels of the format before that no longer open" \
 planted "parcels of the format before that are not brought over" \
     's/seal_parcel(mode, rounds, new_start/seal_parcel(mode, rounds, old_start/' \
     "$root/tools/check-install.sh" "$faulty"
+planted "another parcel from a run" \
+    's/mro_finish(rounds, words, header_len, len, tag);/mro_finish(rounds, words + 1, header_len, len, tag);/' \
+    "$root/tools/check-install.sh" "$faulty"
+planted "parcels of the format before opened from a run" \
+    '/^uint64_t baseline_open_run/,/^}/s/return opened(.*);/return baseline_open_old(mode, rounds, key, key_len, nonce, nonce_len, header, header_len, input, input_len, output, output_len);/' \
+    "$root/tools/check-install.sh" "$faulty"
 planted "another order in the record of a sale" \
     's/AMOUNT = 0, COLUMN = 4/AMOUNT = 2, COLUMN = 0/' \
     "$root/tools/check-install.sh" "$faulty"
 planted_install "another library's name for pkg-config" calmbaize.pc 's/-lcalmbaize/-lcalmbaise/'
 planted_install "another version for pkg-config" calmbaize.pc 's/^Version: /&1/'
+planted_install "another version for x86-64-v3" x86-64-v3/calmbaize.pc 's/^Version: /&1/'
+planted_install "the header sought beside the archive for x86-64-v3" x86-64-v3/calmbaize.pc 's|^\(includedir=.*\)/\.\.$|\1|'
+planted_install "the baseline archive for x86-64-v3" x86-64-v3/calmbaize.pc 's|^libdir=.*|&/..|'
 planted_install "another format, the same parcels" calmbaize.h 's/CALMBAIZE_FORMAT 2/CALMBAIZE_FORMAT 3/'
 planted_installer "LIBDIR not heeded" 's|^libdir=.*|libdir=$prefix/lib|'
-planted_installer "LIBDIR not heeded for pkg-config" 's|libdir=$(libdir_by_prefix)|libdir=\\${prefix}/lib|'
-planted_installer "a file left behind" 's| "$for_pkg_config" "$program"; do| "$program"; do|'
+planted_installer "LIBDIR not heeded for pkg-config" 's|libdir=$(by_prefix "$1")|libdir=\\${prefix}/lib|'
+planted_installer "a file left behind" 's| "${DESTDIR:-}$folder/pkgconfig/calmbaize.pc"$||'
+planted_installer "the archive for x86-64-v3 left behind" 's|in "$libdir" "$wide"; do|in "$libdir"; do|'
+planted_installer "an empty folder left behind" '/rmdir/d'
+planted_installer "one archive in both places" 's|put_archive "$wide" .*|put_archive "$wide" "$dist"|'
 
 planted "a timed call that is refused" \
     's/MAX_MESSAGE = 65536/MAX_MESSAGE = 65535/' \
@@ -432,6 +554,7 @@ planted_header "a header that does not compile" 's/size_t key_len/key_len/'
 planted_header "open's answer may be dropped" \
     '/^CALMBAIZE_NODISCARD$/ { N; /calmbaize_open/s/.*\n// }'
 planted_header "answers may be dropped in C++17" 's/NODISCARD \[\[nodiscard\]\]/NODISCARD/'
+planted_header "a run's length without the header" 's/header_len > message_len ? header_len/0 ? header_len/'
 planted_header "another version than Cargo.toml's" 's/VERSION_MINOR [0-9]*/&0/'
 planted_header "another text of the version" 's/VERSION "0/&0/'
 planted_header "parts that only add up to the version" \
@@ -446,6 +569,10 @@ planted_constants "the modes exchanged" 's/MODE_OPP 1U/MODE_OPP 2U/; s/MODE_MRO 
 planted_constants "a limit that is too small" 's/STEPS_MAX 4096U/STEPS_MAX 4095U/'
 planted_constants "a limit that is too large" 's/COUNT_MAX 65536/COUNT_MAX 65537/'
 planted_constants "a length without the tag" 's/SEALED_BYTES_MAX .*/SEALED_BYTES_MAX 65536U/'
+planted_constants "a run that is too short" 's/RUN_WORDS_MAX 533U/RUN_WORDS_MAX 532U/'
+planted_constants "a run that is too long" 's/RUN_WORDS_MAX 533U/RUN_WORDS_MAX 534U/'
+planted_constants "one word too few told" 's/BLOCK_BYTES + 21U;/BLOCK_BYTES + 20U;/; s/RUN_WORDS_MAX 533U/RUN_WORDS_MAX 532U/'
+planted_constants "one word too many told" 's/BLOCK_BYTES + 21U;/BLOCK_BYTES + 22U;/; s/RUN_WORDS_MAX 533U/RUN_WORDS_MAX 534U/'
 planted_constants "cells of half the length" 's/CELL_BYTES 64U/CELL_BYTES 32U/'
 planted_constants "a store one cell too short" 's/STORE_BYTES_MAX 65536U/STORE_BYTES_MAX 65472U/'
 planted_constants "a store one cell too long" 's/STORE_BYTES_MAX 65536U/STORE_BYTES_MAX 65600U/'
@@ -462,6 +589,12 @@ planted_constants "a constant that no check holds" \
     's/^#define CALMBAIZE_STEP_ALPHA 1U/&\n#define CALMBAIZE_STEP_DELTA 7U/'
 planted "another limit than the header's" \
     's/MAX_HEADER = 4096/MAX_HEADER = 4097/' \
+    "$root/tools/check-constants.sh" "$faulty"
+planted "a longer run than the header's" \
+    's/BLOCK + WORDS + 5;/BLOCK + WORDS + 6;/' \
+    "$root/tools/check-constants.sh" "$faulty"
+planted "words of open_run that are not counted" \
+    's/output_len < len || words_len < count/output_len < len/' \
     "$root/tools/check-constants.sh" "$faulty"
 planted "a place with every refusal" \
     's/return (uint64_t)number << 32 | place;/return (uint64_t)number << 32 | (place + 1);/' \
@@ -490,7 +623,7 @@ planted_printed "printed: another number on the page" docs/PAPER.md 's/â‹™ 63/â‹
 planted_printed "printed: a row that the page leaves out" docs/PAPER.md '/`step(d2, 7)`/d'
 
 echo none > "$faulty/libcalmbaize.a"
-for check in archive constants secrets stack traces; do
+for check in archive constants secrets stack traces vectors; do
     expect 2 "$check: an archive that is none" "$root/tools/check-$check.sh" "$faulty"
 done
 rm "$work/copy/docs/PAPER.md"

@@ -1,9 +1,9 @@
 /*
  * Seals, opens and converts with the key, the nonce, the message, the parcel and its tag marked
- * undefined, and walks and jumps with the start marked so. Parcels of the old start are made by the
- * scalar C, since no call seals them. In the store the key, the record of a sale, its sealed bytes and
- * its tag are marked; indices, kinds and nonces are not. Under valgrind's memcheck every branch and
- * every address that depends on one of them is an error.
+ * undefined, and with them what lent words hold; walks and jumps with the start marked so. Parcels of
+ * the old start are made by the scalar C, since no call seals them. In the store the key, the record of
+ * a sale, its sealed bytes and its tag are marked; indices, kinds and nonces are not. Under valgrind's
+ * memcheck every branch and every address that depends on one of them is an error.
  *
  * usage: secrets [VERDICT]
  *
@@ -30,7 +30,9 @@ enum { CELL = CALMBAIZE_CELL_BYTES, CELLS = 6, SALES = CELLS - 1, MACHINE = 7, R
 enum { SEALED = CELL - TAG - RECORD };
 
 static uint8_t key[CALMBAIZE_KEY_BYTES], nonce[CALMBAIZE_NONCE_BYTES];
-static uint8_t header[200], message[MAX], parcel[MAX + TAG], output[MAX + TAG];
+static uint8_t header[700], message[MAX], parcel[MAX + TAG], output[MAX + TAG];
+/* One more than the longest run has. */
+static uint64_t words[MAX / CALMBAIZE_BLOCK_BYTES + 22];
 static uint8_t start[CALMBAIZE_BLOCK_BYTES], steps[STEPS];
 static uint8_t store[CELLS * CELL], tail[CALMBAIZE_NONCE_TAIL_BYTES];
 /* Of sale n at n. */
@@ -87,20 +89,49 @@ static void define_key_and_nonce(void)
     define(nonce, sizeof nonce);
 }
 
-static void seal(uint32_t mode, uint32_t rounds, size_t header_len, size_t len)
+/* The calls that take a message or a parcel. Those that are lent words get them below, marked. */
+typedef uint64_t call(uint32_t, uint32_t, const uint8_t *, size_t, const uint8_t *, size_t,
+                      const uint8_t *, size_t, const uint8_t *, size_t, uint8_t *, size_t);
+
+static uint64_t seal_run(uint32_t mode, uint32_t rounds, const uint8_t *k, size_t k_len,
+                         const uint8_t *n, size_t n_len, const uint8_t *h, size_t h_len,
+                         const uint8_t *in, size_t in_len, uint8_t *out, size_t out_len)
+{
+    hide(words, sizeof words);
+    return calmbaize_seal_run(mode, rounds, k, k_len, n, n_len, h, h_len, in, in_len, out, out_len,
+                              words, COUNT(words));
+}
+
+static uint64_t open_run(uint32_t mode, uint32_t rounds, const uint8_t *k, size_t k_len,
+                         const uint8_t *n, size_t n_len, const uint8_t *h, size_t h_len,
+                         const uint8_t *in, size_t in_len, uint8_t *out, size_t out_len)
+{
+    hide(words, sizeof words);
+    return calmbaize_open_run(mode, rounds, k, k_len, n, n_len, h, h_len, in, in_len, out, out_len,
+                              words, COUNT(words));
+}
+
+static void seal_by(const char *name, call *call, uint32_t mode, uint32_t rounds, size_t header_len,
+                    size_t len)
 {
     hide_key_and_nonce();
     hide(message, len);
     unsigned before = VALGRIND_COUNT_ERRORS;
-    uint64_t answer = calmbaize_seal(mode, rounds, key, sizeof key, nonce, sizeof nonce, header,
-                                     header_len, message, len, parcel, sizeof parcel);
+    uint64_t answer = call(mode, rounds, key, sizeof key, nonce, sizeof nonce, header, header_len,
+                           message, len, parcel, sizeof parcel);
     unsigned errors = VALGRIND_COUNT_ERRORS - before;
     define(&answer, sizeof answer);
     define_key_and_nonce();
     define(message, len);
     define(parcel, sizeof parcel);
-    snprintf(tried, sizeof tried, "seal, mode %u, %u rounds, %zu bytes", mode, rounds, len);
+    snprintf(tried, sizeof tried, "%s, mode %u, %u rounds, %zu bytes", name, mode, rounds, len);
     count(answer, len + TAG, errors, 0);
+}
+
+static void seal(uint32_t mode, uint32_t rounds, size_t header_len, size_t len)
+{
+    seal_by("seal_run", seal_run, mode, rounds, header_len, len);
+    seal_by("seal", calmbaize_seal, mode, rounds, header_len, len);
 }
 
 /* With nothing marked: the library has no such call. */
@@ -116,8 +147,7 @@ static void seal_old(uint32_t mode, uint32_t rounds, size_t header_len, size_t l
 /* A call that takes a parcel, its answer where that is whole, and the branches allowed. */
 struct trial {
     const char *name;
-    uint64_t (*call)(uint32_t, uint32_t, const uint8_t *, size_t, const uint8_t *, size_t,
-                     const uint8_t *, size_t, const uint8_t *, size_t, uint8_t *, size_t);
+    call *call;
     uint64_t answer;
     unsigned whole, damaged;
 };
@@ -180,17 +210,23 @@ static void jump(int32_t alpha, int32_t beta, int32_t gamma)
     count(answer, sizeof start, errors, 0);
 }
 
-/* Parcels of both starts in every length. Convert tries the new start where the old one fails. */
+/*
+ * Parcels of both starts in every length. Convert tries the new start where the old one fails. There
+ * are one, two and three blocks beside those that are taken four in a turn.
+ */
 static void all_lengths(uint32_t mode, uint32_t rounds, unsigned allowed)
 {
-    static const size_t lengths[] = {0, 1, 13, 127, 128, 129, 300, 1024, MAX};
+    static const size_t lengths[] = {0, 1, 13, 127, 128, 129, 300, 389, 640, 901, 1024, MAX};
     const uint64_t done = refusal(CALMBAIZE_REFUSED_DONE_ALREADY, 0);
+    const uint64_t differs = refusal(CALMBAIZE_REFUSED_TAG, 0);
 
     for (size_t i = 0; i < COUNT(lengths); i++) {
         size_t len = lengths[i], header_len = i % 2 ? sizeof header : 0;
-        const struct trial trials[2][2] = {{{"open", calmbaize_open, len, allowed, allowed},
+        const struct trial trials[2][3] = {{{"open", calmbaize_open, len, allowed, allowed},
+                                            {"open_run", open_run, len, allowed, allowed},
                                             {"convert", calmbaize_convert, done, 2, 2}},
                                            {{"open_old", calmbaize_open_old, len, allowed, allowed},
+                                            {"open_run", open_run, differs, allowed, allowed},
                                             {"convert", calmbaize_convert, len + TAG, 1, 2}}};
         for (int old = 0; old < 2; old++) {
             (old ? seal_old : seal)(mode, rounds, header_len, len);

@@ -21,6 +21,7 @@ static uint8_t key[CALMBAIZE_KEY_BYTES], nonce[CALMBAIZE_NONCE_BYTES];
 static uint8_t header[CALMBAIZE_HEADER_BYTES_MAX], message[MAX], parcel[MAX + TAG];
 static uint8_t output[MAX + TAG], start[CALMBAIZE_BLOCK_BYTES], steps[600];
 static uint8_t store[CALMBAIZE_STORE_BYTES_MAX];
+static uint64_t words[CALMBAIZE_RUN_WORDS_MAX];
 static uint32_t mode, rounds;
 static size_t header_len, len, store_len;
 static int checks, passed;
@@ -43,6 +44,13 @@ static void seal(void)
            len + TAG);
 }
 
+static void seal_run(void)
+{
+    expect(calmbaize_seal_run(mode, rounds, key, sizeof key, nonce, sizeof nonce, header, header_len,
+                              message, len, parcel, sizeof parcel, words, COUNT(words)),
+           len + TAG);
+}
+
 /* By the scalar C: the library has no such call. */
 static void seal_old(void)
 {
@@ -55,6 +63,12 @@ static uint64_t open_parcel(void)
 {
     return calmbaize_open(mode, rounds, key, sizeof key, nonce, sizeof nonce, header, header_len,
                           parcel, len + TAG, output, sizeof output);
+}
+
+static uint64_t open_run_parcel(void)
+{
+    return calmbaize_open_run(mode, rounds, key, sizeof key, nonce, sizeof nonce, header, header_len,
+                              parcel, len + TAG, output, sizeof output, words, COUNT(words));
 }
 
 static uint64_t open_old_parcel(void)
@@ -81,6 +95,11 @@ static void take_both(uint64_t (*call)(void), uint64_t expected)
 static void open(void)
 {
     take_both(open_parcel, len);
+}
+
+static void open_run(void)
+{
+    take_both(open_run_parcel, len);
 }
 
 static void open_old(void)
@@ -176,10 +195,13 @@ static size_t depth(void (*call)(void))
     return STACK - untouched;
 }
 
-/* The deepest over all kinds of lengths, of a call for the parcel that is made first. */
+/*
+ * The deepest over all kinds of lengths, with no to three blocks beside those that are taken four in a
+ * turn, of a call for the parcel that is made first.
+ */
 static size_t deepest_of_lengths(void (*first)(void), void (*call)(void))
 {
-    static const size_t lengths[] = {0, 1, 127, 128, 129, 4096, MAX};
+    static const size_t lengths[] = {0, 1, 127, 128, 129, 389, 768, 4096, MAX};
     size_t deepest = 0;
 
     for (size_t i = 0; i < COUNT(lengths); i++)
@@ -233,16 +255,26 @@ static size_t deepest_of_stores(void (*call)(void))
     return deepest;
 }
 
-/* How many of the settings 0 to 99 seal accepts: all of them must be among those tried. */
+/* An empty message is sealed, by one of the calls at least. */
+static int accepted(uint32_t m, uint32_t r)
+{
+    uint64_t sealed = calmbaize_seal(m, r, key, sizeof key, nonce, sizeof nonce, header, 0, message, 0,
+                                     parcel, sizeof parcel);
+    uint64_t from_run = calmbaize_seal_run(m, r, key, sizeof key, nonce, sizeof nonce, header, 0,
+                                           message, 0, parcel, sizeof parcel, words, COUNT(words));
+
+    return sealed == TAG || from_run == TAG;
+}
+
+/* How many of the settings 0 to 99 are accepted: all of them must be among those tried. */
 static size_t accepted_settings(void)
 {
-    size_t accepted = 0;
+    size_t settings = 0;
 
     for (uint32_t m = 0; m < 100; m++)
         for (uint32_t r = 0; r < 100; r++)
-            accepted += calmbaize_seal(m, r, key, sizeof key, nonce, sizeof nonce, header, 0, message,
-                                       0, parcel, sizeof parcel) == TAG;
-    return accepted;
+            settings += accepted(m, r);
+    return settings;
 }
 
 static void check(const char *call, size_t measured, size_t floor, size_t stated)
@@ -258,12 +290,12 @@ static void check(const char *call, size_t measured, size_t floor, size_t stated
 /* Every setting that is accepted is tried, and no call answers otherwise than it should. */
 static void check_answers(void)
 {
-    size_t accepted = accepted_settings(), tried = COUNT(modes) * COUNT(round_counts);
-    int right = accepted == tried && unexpected == 0;
+    size_t settings = accepted_settings(), tried = COUNT(modes) * COUNT(round_counts);
+    int right = settings == tried && unexpected == 0;
 
     if (!right)
         printf("  answers: %zu settings tried of %zu accepted, %lu answers not as they should be\n",
-               tried, accepted, unexpected);
+               tried, settings, unexpected);
     checks++;
     passed += right;
 }
@@ -289,6 +321,8 @@ int main(void)
     check("open", deepest_sealing(seal, open), floor, CALMBAIZE_OPEN_STACK_BYTES);
     check("open_old", deepest_sealing(seal_old, open_old), floor, CALMBAIZE_OPEN_OLD_STACK_BYTES);
     check("convert", deepest_converting(), floor, CALMBAIZE_CONVERT_STACK_BYTES);
+    check("seal_run", deepest_sealing(seal_run, seal_run), floor, CALMBAIZE_SEAL_RUN_STACK_BYTES);
+    check("open_run", deepest_sealing(seal, open_run), floor, CALMBAIZE_OPEN_RUN_STACK_BYTES);
     check("walk", depth(walk), floor, CALMBAIZE_WALK_STACK_BYTES);
     check("jump", depth(jump), floor, CALMBAIZE_JUMP_STACK_BYTES);
     check_stores(floor);

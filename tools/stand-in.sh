@@ -22,15 +22,29 @@ if [ -n "$fault" ] && diff -r "$root/c" "$sources" > /dev/null; then
 fi
 # Each call of the library goes under the library's name.
 names=$(sed -n 's/^uint64_t calmbaize\(_[a-z_]*\)(.*/-Dbaseline\1=calmbaize\1/p' "$root/include/calmbaize.h")
-for source in "$sources"/*.c; do
-    # Names are words.
-    # shellcheck disable=SC2086
-    ${CC:-cc} -std=c99 -O3 -fPIC $names -c "$source" -o "${source%.c}.o"
-done
-# One object, so that what one source has of another is no name from outside.
-${CC:-cc} -r -o "$folder/stand-in.o" "$sources"/*.o
-# The library exports nothing else.
-objcopy --wildcard --localize-symbol='baseline_*' "$folder/stand-in.o"
-rm -f "$folder/stand-in.a"
-ar crs "$folder/stand-in.a" "$folder/stand-in.o"
-"$root/tools/make-dist.sh" "$folder/stand-in.a" "$folder"
+
+# archive NAME OPTIONS...: the sources, compiled with the options, as NAME.a beside them.
+archive() {
+    objects=$sources/$1
+    shift
+    mkdir "$objects"
+    for source in "$sources"/*.c; do
+        object=${source##*/}
+        # Names are words.
+        # shellcheck disable=SC2086
+        ${CC:-cc} -std=c99 -O3 -fPIC "$@" $names -c "$source" -o "$objects/${object%.c}.o"
+    done
+    # One object, so that what one source has of another is no name from outside.
+    ${CC:-cc} -r -o "$objects.o" "$objects"/*.o
+    # The library exports nothing else.
+    objcopy --wildcard --localize-symbol='baseline_*' --localize-symbol='avx2_*' "$objects.o"
+    ar crs "$objects.a" "$objects.o"
+}
+
+# A compiler that does not know that processor makes both archives alike.
+wide=-march=x86-64-v3
+${CC:-cc} "$wide" -E -x c /dev/null > /dev/null 2>&1 || wide=
+archive baseline &
+archive wide ${wide:+"$wide"}
+wait $!
+"$root/tools/make-dist.sh" "$sources/baseline.a" "$sources/wide.a" "$folder"

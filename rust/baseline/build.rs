@@ -1,11 +1,11 @@
-//! Compiles the scalar C version with the system's C compiler.
+//! Compiles the scalar C version, and OPP by AVX2, with the system's C compiler.
 
 use std::env;
 use std::ffi::OsString;
 use std::path::{Path, PathBuf};
 use std::process::Command;
 
-const SOURCES: [&str; 2] = ["baseline.c", "store.c"];
+const SOURCES: [&str; 4] = ["avx2.c", "baseline.c", "run.c", "store.c"];
 
 fn main() {
     let folder = Path::new(&variable("CARGO_MANIFEST_DIR")).join("../../c");
@@ -18,13 +18,22 @@ fn main() {
     for source in SOURCES {
         let object = out.join(source).with_extension("o");
         let mut compile = Command::new(&compiler);
-        compile.args(["-std=c99", "-O3", "-fPIC", "-c", "-o"]);
+        compile.args(["-std=c99", "-O3", "-fPIC"]);
+        compile.args(options(source)).args(["-c", "-o"]);
         run(compile.arg(&object).arg(folder.join(source)));
         archive.arg(object);
     }
     run(&mut archive);
     println!("cargo::rustc-link-search=native={}", out.display());
     println!("cargo::rustc-link-lib=static=baseline");
+}
+
+/// What the compiler is told for one source alone.
+fn options(source: &str) -> &'static [&'static str] {
+    match (source, variable("CARGO_CFG_TARGET_ARCH").to_str()) {
+        ("avx2.c", Some("x86_64")) => &["-mavx2"],
+        _ => &[],
+    }
 }
 
 fn variable(name: &str) -> OsString {

@@ -1,7 +1,6 @@
 -- Laws of checks, and a bound on what a call answers. Assumes nothing.
 use mathlib.Core.Path.{_≡_, refl, sym, ap, _∙_, subst}
 use mathlib.Core.Bool.{Bool, true, false, true≢false}
-use mathlib.Core.List.{List}
 use Prim.Native.Nat.{ℕ, _/_, _%_, _^_, _≤_, _<_}
 use lib.Arith.{digits-div, digits-mod}
 use borrow.Author.Tests.{ltb-false}
@@ -64,12 +63,12 @@ after-clear (Fails g at) next e = absurd (true≢false (sym (ap isClear e)))
 
 -- ---- a call after its checks
 
-pub refused : {c found : Check} (g : Ground) (at : ℕ) (out : List ℕ) (r : Answer × List ℕ) → found ≡ c → found ≡ Fails g at
+pub refused : {A : Type 0} {c found : Check} (g : Ground) (at : ℕ) (out : A) (r : Answer × A) → found ≡ c → found ≡ Fails g at
     → (Refused g at, out) ≡ checked c out r
 unfolding checked
 refused g at out r e q = sym (ap (λ (x : Check). checked x out r) (sym e ∙ q))
 
-pub allowed : {c found : Check} (out : List ℕ) (r : Answer × List ℕ) → found ≡ c → found ≡ Clear → r ≡ checked c out r
+pub allowed : {A : Type 0} {c found : Check} (out : A) (r : Answer × A) → found ≡ c → found ≡ Clear → r ≡ checked c out r
 unfolding checked
 allowed out r e q = sym (ap (λ (x : Check). checked x out r) (sym e ∙ q))
 
@@ -105,7 +104,7 @@ unfolding lineAt
 lineAt-lt n true g at next h k = h refl
 lineAt-lt n false g at next h k = k refl
 
-pub checked-lt : (n : ℕ) (c : Check) (out : List ℕ) (r : Answer × List ℕ) → placeOf c < n → (c ≡ Clear → valueOf (r .0) < n)
+pub checked-lt : {A : Type 0} (n : ℕ) (c : Check) (out : A) (r : Answer × A) → placeOf c < n → (c ≡ Clear → valueOf (r .0) < n)
     → valueOf (checked c out r .0) < n
 unfolding checked
 checked-lt n Clear out r h k = k refl
@@ -122,5 +121,5 @@ unfolding codeOf
 taken-apart a h = (digits-div (numberOf a) h, digits-mod (numberOf a) h)
 
 -- what a call answered is as small as what it was to answer
-pub answered-lt : (n : ℕ) {a : Answer} {out : List ℕ} {r : Answer × List ℕ} → (a, out) ≡ r → valueOf (r .0) < n → valueOf a < n
-answered-lt n e h = subst (λ (x : Answer × List ℕ). valueOf (x .0) < n) (sym e) h
+pub answered-lt : {A : Type 0} (n : ℕ) {a : Answer} {out : A} {r : Answer × A} → (a, out) ≡ r → valueOf (r .0) < n → valueOf a < n
+answered-lt {A} n e h = subst (λ (x : Answer × A). valueOf (x .0) < n) (sym e) h

@@ -1,6 +1,5 @@
 -- What a public call answers, and what its checks find (document 01, "Entry points and where each call is checked"). Assumes nothing.
 use mathlib.Core.Bool.{Bool, true, false}
-use mathlib.Core.List.{List}
 use Prim.Native.Nat.{ℕ, _+_, _*_, _^_}
 use lib.Dec.{ltb}
 use Rattle.answers.specs.declared.Ground.{Ground}
@@ -46,8 +45,8 @@ valueOf (Refused ground place) = place
 unfoldable pub codeOf : Answer → ℕ
 codeOf a = numberOf a * 2 ^ 32 + valueOf a
 
--- a call's answer in that form, beside its output
-unfoldable pub coded : Answer × List ℕ → ℕ × List ℕ
+-- a call's answer in that form, beside what it writes
+unfoldable pub coded : {A : Type 0} → Answer × A → ℕ × A
 coded r = (codeOf (r .0), r .1)
 
 -- ---- checks
@@ -65,10 +64,10 @@ line test ground next = lineAt test ground 0 next
 unfoldable pub room : ℕ → ℕ → Check → Check
 room needed lent next = line (ltb lent needed) OutputLength next
 
--- a call: what its checks find it answers, and changes no byte of the output; where they are clear it answers and writes as given
-unfoldable pub checked : Check → List ℕ → Answer × List ℕ → Answer × List ℕ
-checked (Fails ground place) out result = (Refused ground place, out)
-checked Clear out result = result
+-- a call: what its checks find it answers, and changes nothing of what it may write; where they are clear it answers and writes as given
+unfoldable pub checked : {A : Type 0} → Check → A → Answer × A → Answer × A
+checked (Fails ground place) before result = (Refused ground place, before)
+checked Clear before result = result
 
 -- a call that writes nothing: what its checks find, or the answer given
 unfoldable pub judged : Check → Answer → Answer

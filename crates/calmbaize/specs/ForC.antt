@@ -8,6 +8,8 @@ use Rattle.answers.specs.Answers.{numberOf, valueOf, codeOf}
 use Rattle.answers.specs.declared.Answer.{Answer}
 use Rattle.answers.specs.declared.Answer.the-variants.{Done, Refused}
 use Rattle.sealing.specs.Sealing.{sealCall, openCall, openOldCall}
+use Rattle.converting.specs.Converting.{convertCall}
+use Rattle.run_sealing.specs.RunSealing.{sealRunCall, openRunCall}
 use Rattle.walking.specs.Walking.{walkCall, jumpCall}
 use Rattle.sales.specs.declared.Sale.{Sale}
 use Rattle.store.specs.Store.{formatCall, takeCall, cancelCall, totalCall, readCall}
@@ -40,6 +42,9 @@ pub record ForC : Type 0 where
   pub of-seal : (mode rounds : ℕ) (key nonce header message out : List ℕ) → Apart (sealCall mode rounds key nonce header message out .0)
   pub of-open : (mode rounds : ℕ) (key nonce header parcel out : List ℕ) → Apart (openCall mode rounds key nonce header parcel out .0)
   pub of-open-old : (mode rounds : ℕ) (key nonce header parcel out : List ℕ) → Apart (openOldCall mode rounds key nonce header parcel out .0)
+  pub of-convert : (mode rounds : ℕ) (key nonce header parcel out : List ℕ) → Apart (convertCall mode rounds key nonce header parcel out .0)
+  pub of-seal-run : (mode rounds : ℕ) (key nonce header message out words : List ℕ) → Apart (sealRunCall mode rounds key nonce header message out words .0)
+  pub of-open-run : (mode rounds : ℕ) (key nonce header parcel out words : List ℕ) → Apart (openRunCall mode rounds key nonce header parcel out words .0)
   pub of-walk : (start steps out : List ℕ) → Apart (walkCall start steps out .0)
   pub of-jump : (start : List ℕ) (alpha beta gamma : ℤ) (out : List ℕ) → Apart (jumpCall start alpha beta gamma out .0)
   pub of-format : (s : List ℕ) → Apart (formatCall s .0)

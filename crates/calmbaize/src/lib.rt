@@ -5,6 +5,7 @@ use sales::Sale;
 ghost use mathlib.Core.Path.{_≡_};
 ghost use Rattle.answers.specs.Answers.{codeOf, coded};
 ghost use Rattle.sealing.specs.Sealing.{sealCall, openCall, openOldCall};
+ghost use Rattle.run_sealing.specs.RunSealing.{sealRunCall, openRunCall};
 ghost use Rattle.converting.specs.Converting.{convertCall};
 ghost use Rattle.walking.specs.Walking.{walkCall, jumpCall};
 ghost use Rattle.store.specs.Store.{formatCall, takeCall, cancelCall, totalCall, readCall};
@@ -73,6 +74,41 @@ pub extern "C" fn calmbaize_convert(
     ensures { λ r. ⌜ (r, now (output .exit)) ≡ coded (convertCall mode rounds (now (key .entry)) (now (nonce .entry)) (now (header .entry)) (now (input .entry)) (now (output .entry))) ⌝ }
 {
     answers::code(converting::convert(mode, rounds, key, nonce, header, input, output))
+}
+
+// Seals a message from a run of words: what calmbaize_seal answers and writes, and the run in the
+// words.
+#[no_mangle]
+pub extern "C" fn calmbaize_seal_run(
+    mode: u32,
+    rounds: u32,
+    key: &[u8],
+    nonce: &[u8],
+    header: &[u8],
+    input: &[u8],
+    output: &mut [u8],
+    words: &mut [u64],
+) -> u64
+    ensures { λ r. ⌜ (r, (now (output .exit), now (words .exit))) ≡ coded (sealRunCall mode rounds (now (key .entry)) (now (nonce .entry)) (now (header .entry)) (now (input .entry)) (now (output .entry)) (now (words .entry))) ⌝ }
+{
+    answers::code(run_sealing::seal(mode, rounds, key, nonce, header, input, output, words))
+}
+
+// Opens a parcel from a run of words: what calmbaize_open answers and writes, and the run in the words.
+#[no_mangle]
+pub extern "C" fn calmbaize_open_run(
+    mode: u32,
+    rounds: u32,
+    key: &[u8],
+    nonce: &[u8],
+    header: &[u8],
+    input: &[u8],
+    output: &mut [u8],
+    words: &mut [u64],
+) -> u64
+    ensures { λ r. ⌜ (r, (now (output .exit), now (words .exit))) ≡ coded (openRunCall mode rounds (now (key .entry)) (now (nonce .entry)) (now (header .entry)) (now (input .entry)) (now (output .entry)) (now (words .entry))) ⌝ }
+{
+    answers::code(run_sealing::open(mode, rounds, key, nonce, header, input, output, words))
 }
 
 // The block reached from the start by taking each step of the list in turn.

@@ -1,7 +1,7 @@
--- The checks of seal, open and convert, over settings and lengths alone (document 01, "Entry points and where each call is checked"). Assumes nothing.
-use mathlib.Core.Bool.{Bool, false, not, _||_}
+-- The checks of seal, open and convert, and of sealing and opening from a run, over settings and lengths alone (document 01, "Entry points and where each call is checked"). Assumes nothing.
+use mathlib.Core.Bool.{Bool, false, not, cond, _||_}
 use mathlib.Core.List.{List, [], _∷_}
-use Prim.Native.Nat.{ℕ, _+_, _-_}
+use Prim.Native.Nat.{ℕ, _+_, _-_, _/_}
 use lib.Dec.{eqb, ltb}
 use Rattle.answers.specs.Answers.{line, room}
 use Rattle.answers.specs.declared.Check.{Check}
@@ -50,3 +50,21 @@ openChecks mode rounds key nonce header parcel out = openInputs mode rounds key 
 -- convert, all but the judgement of the parcel, which comes last: checked as open, and the last of these is room for a parcel of the same length (document 02, card 5)
 unfoldable pub convertChecks : ℕ → ℕ → ℕ → ℕ → ℕ → ℕ → ℕ → Check
 convertChecks mode rounds key nonce header parcel out = openInputs mode rounds key nonce header parcel (room parcel out Clear)
+
+-- the larger of two counts
+unfoldable pub larger : ℕ → ℕ → ℕ
+larger a b = cond (ltb a b) b a
+
+-- the run's length in words: the whole blocks of header or message, the larger count, plus 21 (document 02, card 6)
+unfoldable pub runLength : ℕ → ℕ → ℕ
+runLength header message = larger (header / 128) (message / 128) + 21
+
+-- seal from a run, all: as seal's, and with the output's length that of the buffer of words (document 02, card 6)
+unfoldable pub sealRunChecks : ℕ → ℕ → ℕ → ℕ → ℕ → ℕ → ℕ → ℕ → Check
+sealRunChecks mode rounds key nonce header message out words =
+    sealInputs mode rounds key nonce header message (room (message + 32) out (room (runLength header message) words Clear))
+
+-- open from a run, all but the tag's: as open's, and with the output's length that of the buffer of words
+unfoldable pub openRunChecks : ℕ → ℕ → ℕ → ℕ → ℕ → ℕ → ℕ → ℕ → Check
+openRunChecks mode rounds key nonce header parcel out words =
+    openInputs mode rounds key nonce header parcel (room (parcel - 32) out (room (runLength header (parcel - 32)) words Clear))

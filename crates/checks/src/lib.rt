@@ -1,10 +1,11 @@
-// The checks of seal, open and convert, over settings and lengths alone.
+// The checks of seal, open and convert, and of sealing and opening from a run, over settings and
+// lengths alone.
 use answers::Check;
 use answers::Ground;
 use answers::room;
 ghost use mathlib.Core.Path.{_≡_};
 ghost use Rattle.answers.specs.declared.Check.the-variants.{Clear};
-ghost use Rattle.checks.specs.Checks.{isMode, isRounds, settings, sealInputs, openInputs, sealChecks, openChecks, convertChecks};
+ghost use Rattle.checks.specs.Checks.{isMode, isRounds, settings, sealInputs, openInputs, sealChecks, openChecks, convertChecks, runLength, sealRunChecks, openRunChecks};
 
 // The longest message, and the length of a tag.
 const MOST_MESSAGE: usize = 65536;
@@ -120,4 +121,36 @@ pub fn check_convert(mode: u32, rounds: u32, of: Lengths, out: usize) -> Check
         return Check::Fails(ground, place);
     }
     room(of.input, out)
+}
+
+// The words of a run for a header and a message of these lengths: the larger count of whole blocks, and
+// 21, since the last masks reach five words beyond sixteen.
+pub fn run_length(header: usize, message: usize) -> usize
+    ensures { λ r. ⌜ r ≡ runLength header message ⌝ }
+{
+    let h = header / 128;
+    let m = message / 128;
+    if h < m { m + 21 } else { h + 21 }
+}
+
+// The checks of sealing from a run.
+pub fn check_seal_run(mode: u32, rounds: u32, of: Lengths, out: usize, words: usize) -> Check
+    ensures { λ r. ⌜ r ≡ sealRunChecks mode rounds (of .key) (of .nonce) (of .header) (of .input) out words ⌝ }
+{
+    let found = check_seal(mode, rounds, of, out);
+    if let Check::Fails(ground, place) = found {
+        return Check::Fails(ground, place);
+    }
+    room(run_length(of.header, of.input), words)
+}
+
+// The checks of opening from a run, but for the tag.
+pub fn check_open_run(mode: u32, rounds: u32, of: Lengths, out: usize, words: usize) -> Check
+    ensures { λ r. ⌜ r ≡ openRunChecks mode rounds (of .key) (of .nonce) (of .header) (of .input) out words ⌝ }
+{
+    let found = check_open(mode, rounds, of, out);
+    if let Check::Fails(ground, place) = found {
+        return Check::Fails(ground, place);
+    }
+    room(run_length(of.header, of.input - TAG), words)
 }

@@ -3,11 +3,12 @@ use mathlib.Core.Path.{_≡_}
 use mathlib.Core.List.{List, [], _∷_, _++_}
 use Prim.Native.Nat.{ℕ, suc, _+_, _<_}
 use lib.IntN.{pos, negsuc}
-use lib.ListN.{length, getD, set}
+use lib.ListN.{length, getD, set, drop}
 use lib.Bits.{bitXor}
 use Rattle.words.specs.Sequence.{tab, zeros}
 use Rattle.words.specs.Block.{lowBytes, bytesOf, zeroBlock}
 use Rattle.permutation.specs.Permutation.{gOf, round, perm}
+use Rattle.masks.specs.Run.{grown}
 use Rattle.masks.specs.Steps.{alpha, beta, gamma}
 use Rattle.back_steps.specs.BackSteps.{backAlpha}
 use Rattle.mem.specs.Mem.{startBlock, oldStartBlock, oldStartOf}
@@ -18,9 +19,10 @@ use Rattle.answers.specs.Answers.{groundNumber, numberOf, valueOf}
 use Rattle.answers.specs.declared.Check.{Check}
 use Rattle.answers.specs.declared.Check.the-variants.{Clear, Fails}
 use Rattle.answers.specs.declared.Answer.{Answer}
-use Rattle.checks.specs.Checks.{sealChecks, openChecks, convertChecks}
+use Rattle.checks.specs.Checks.{sealChecks, openChecks, convertChecks, runLength, sealRunChecks, openRunChecks}
 use Rattle.sealing.specs.Sealing.{sealCall, openCall, openOldCall}
 use Rattle.converting.specs.Converting.{convertCall}
+use Rattle.run_sealing.specs.RunSealing.{sealRunCall}
 use Rattle.walking.specs.Walking.{walkChecks, jumpChecks}
 use Rattle.cells.specs.Cells.{free}
 use Rattle.cells.specs.Changes.{fresh, filled, emptied}
@@ -111,7 +113,7 @@ paid means = record { machine = 7; sale = 1; tail = zeros 8; amount = 150; colum
 unfoldable pub taken : ℕ → ℕ → List ℕ
 taken machine sale = lowBytes 4 machine ++ (lowBytes 4 sale ++ zeros 53)
 
--- the lines P1 to P11, of which P10 and P11 over the section 4 start; card 4's start before P, for each allowed count, and what is sealed from it; card 5's converter;
+-- the lines P1 to P11, of which P10 and P11 over the section 4 start; card 4's start before P, for each allowed count, and what is sealed from it; card 5's converter; card 6's run;
 -- maskwalk's example with "g", P with twelve rounds, and the limits that the checks keep, those of card 2 too; then rows of the sale store (document 02, card 1)
 unfoldable pub table : List Row
 table =
@@ -143,6 +145,10 @@ table =
     ∷ record { got = answered (convertCall 2 4 (zeros 32) (zeros 16) [] newMro (zeros 32)); want = 17 ∷ 0 ∷ [] }  -- the new parcel is done already
     ∷ record { got = convertCall 2 4 (zeros 32) (zeros 16) [] (1 ∷ zeros 31) (zeros 31 ++ (5 ∷ [])) .1; want = zeros 31 ++ (5 ∷ []) }  -- one of neither start, which changes no byte
     ∷ record { got = answered (convertCall 2 4 (zeros 32) (zeros 16) [] (1 ∷ zeros 31) (zeros 32)); want = 9 ∷ 0 ∷ [] }
+    ∷ record { got = drop 16 (grown (word 0 1) 17); want = 0x0020000000000000 ∷ (zeros 15 ++ (0x0000040000000000 ∷ [])) }  -- words 16 to 32 of two runs (document 02, card 6): rotated, and
+    ∷ record { got = drop 16 (grown (word 5 1) 6); want = 0x2000 ∷ 0 ∷ 0 ∷ 0 ∷ 0 ∷ 0x0020000000000000 ∷ [] }  -- shifted
+    ∷ record { got = sealRunCall 2 4 (zeros 32) (zeros 16) [] [] (zeros 33) (zeros 21) .1 .0; want = newMro ++ (0 ∷ []) }  -- the empty message sealed from a run, MRO with four rounds
+    ∷ record { got = drop 21 (sealRunCall 1 4 (zeros 32) (zeros 16) [] [] (zeros 32) (zeros 21 ++ (5 ∷ 6 ∷ [])) .1 .1); want = 5 ∷ 6 ∷ [] }  -- what lies behind the run
     ∷ record {
       got = sealCall 1 12 sampleKey sampleNonce [] [] (zeros 32) .1;
       want = tag 0xcb215bd593499c3f 0xb73a4e61a980aa54 0xeb5ddc07390000b6 0x91a1a84f27e1fd0b;
@@ -167,6 +173,10 @@ table =
     ∷ record { got = found (openChecks 2 6 32 16 0 32 0); want = 0 ∷ 0 ∷ [] }
     ∷ record { got = found (convertChecks 1 4 32 16 0 160 159); want = 7 ∷ 0 ∷ [] }  -- convert: output 159 for a parcel of 160
     ∷ record { got = found (convertChecks 1 4 32 16 0 160 160); want = 0 ∷ 0 ∷ [] }
+    ∷ record { got = found (sealRunChecks 1 4 32 16 0 127 159 20); want = 7 ∷ 0 ∷ [] }  -- a run: 20 words for no whole block, and 21
+    ∷ record { got = found (sealRunChecks 1 4 32 16 0 127 159 21); want = 0 ∷ 0 ∷ [] }
+    ∷ record { got = found (openRunChecks 2 12 32 16 4096 160 128 52); want = 7 ∷ 0 ∷ [] }  -- 52 words for a header of 32 blocks
+    ∷ record { got = runLength 4096 128 ∷ runLength 4095 65536 ∷ runLength 0 65535 ∷ []; want = 53 ∷ 533 ∷ 532 ∷ [] }
     ∷ record { got = found (jumpChecks 128 (pos 65536) (negsuc 65535) (pos 0) 128); want = 0 ∷ 0 ∷ [] }  -- net counts 65,536 and -65,536
     ∷ record { got = found (jumpChecks 128 (pos 0) (pos 65537) (pos 0) 128); want = 11 ∷ 0 ∷ [] }
     ∷ record { got = found (walkChecks 128 (1 ∷ 7 ∷ 0 ∷ []) 128); want = 12 ∷ 1 ∷ [] }  -- steps 1, 7, 0

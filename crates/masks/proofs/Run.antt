@@ -8,17 +8,17 @@ use native.Mathlib.Numerals.{add-one, add-two}
 use native.Mathlib.Omega.{arith}
 use native.Mathlib.Decide.{decLt}
 use lib.Dec.{lit<}
-use lib.ListN.{length, getD, drop, length-append, List·getD-append}
-use lib.Seq.{drop-append-le, drop-drop, getD-drop, getD-at}
+use lib.ListN.{length, getD, take, drop, length-append, List·getD-append}
+use lib.Seq.{drop-append-le, take-append-le, take-all, length-take-le, drop-drop, getD-drop, getD-at}
 use lib.Bits.{bitXor}
 use Rattle.words.specs.Sequence.{tab, times}
 use Rattle.words.specs.Block.{Block, xorBlock}
-use Rattle.words.proofs.Lists.{tab-ext, tab-getD}
+use Rattle.words.proofs.Lists.{tab-ext, tab-getD, getD-tab}
 use Rattle.words.proofs.Maps.{turn}
 use Rattle.words.proofs.Times.{times-keeps, times-commute}
 use Rattle.words.proofs.Blocks.{block-is, getD-xor}
 use Rattle.masks.specs.Steps.{alpha, alphaW, beta, gamma}
-use Rattle.masks.specs.Run.{nextWord, grown, run}
+use Rattle.masks.specs.Run.{nextWord, grown, run, neighbours, maskFrom, IsRun}
 use Rattle.masks.proofs.Laws.{alpha-block, beta-block, gamma-block, alpha-beta, alpha-gamma}
 
 -- ---- the run so far
@@ -161,3 +161,52 @@ module _ (s : List ℕ) (b : Block s) (n : ℕ) where
       tab-ext (λ i. bitXor (bitXor (run s (n + i + 2)) (run s (n + i + 1))) (run s (n + i))) (λ i. run (gamma s) (n + i)) 16
       (λ i h. sym (run-gamma s b (n + i)))
       ∙ window (gamma s) (gamma-block s b) n ∙ sym (gamma-last s b n)
+
+-- ---- masks out of a list that is a run
+
+module _ (w : List ℕ) (is : IsRun w) where
+  sixteen : length (take 16 w) ≡ 16
+  sixteen = length-take-le 16 w (is .long)
+
+  -- its words are those of the run of its start
+  word-of : (t : ℕ) → t < length w → getD w t 0 ≡ run (take 16 w) t
+  word-of t h =
+      let e : 16 + (length w - 16) ≡ length w = omega (arith, is .long) in
+      ap (λ (l : List ℕ). getD l t 0) (is .grows ∙ grown-run (take 16 w) sixteen (length w - 16))
+      ∙ getD-tab (run (take 16 w)) (16 + (length w - 16)) t (rw e h)
+
+  module _ (b : Block (take 16 w)) (n : ℕ) where
+    pub from-alpha : n + 16 ≤ length w → maskFrom 0 w n ≡ times alpha n (take 16 w)
+    unfolding maskFrom neighbours
+    from-alpha h =
+        tab-ext (λ i. getD w (n + i) 0) (λ i. run (take 16 w) (n + i)) 16 (λ i p. word-of (n + i) (omega arith)) ∙ window (take 16 w) b n
+
+    pub from-beta : n + 17 ≤ length w → maskFrom 1 w n ≡ beta (times alpha n (take 16 w))
+    unfolding maskFrom neighbours
+    from-beta h =
+        tab-ext (λ i. bitXor (getD w (n + i + 1) 0) (getD w (n + i) 0)) (λ i. bitXor (run (take 16 w) (n + i + 1)) (run (take 16 w) (n + i))) 16
+        (λ i p. ap₂ bitXor (word-of (n + i + 1) (omega arith)) (word-of (n + i) (omega arith)))
+        ∙ window-beta (take 16 w) b n
+
+    pub from-gamma : n + 18 ≤ length w → maskFrom 2 w n ≡ gamma (times alpha n (take 16 w))
+    unfolding maskFrom neighbours
+    from-gamma h =
+        tab-ext (λ i. bitXor (bitXor (getD w (n + i + 1 + 1) 0) (getD w (n + i + 1) 0)) (getD w (n + i) 0))
+        (λ i. bitXor (bitXor (run (take 16 w) (n + i + 2)) (run (take 16 w) (n + i + 1))) (run (take 16 w) (n + i))) 16
+        (λ i p.
+        let e : n + i + 1 + 1 ≡ n + i + 2 = omega arith in
+        let far : getD w (n + i + 1 + 1) 0 ≡ run (take 16 w) (n + i + 2) = rw e (word-of (n + i + 2) (omega arith)) in
+        ap₂ bitXor (ap₂ bitXor far (word-of (n + i + 1) (omega arith))) (word-of (n + i) (omega arith)))
+        ∙ window-gamma (take 16 w) b n
+
+-- a run that was grown is one, and its first sixteen words are its start
+pub start-grown : (s : List ℕ) (n : ℕ) → length s ≡ 16 → take 16 (grown s n) ≡ s
+unfolding grown
+start-grown s zero h = take-all 16 s (omega arith)
+start-grown s (suc n) h = take-append-le 16 (grown s n) (nextWord (grown s n) n ∷ []) (omega (arith, length-grown s h n)) ∙ start-grown s n h
+
+pub is-grown : (s : List ℕ) (n : ℕ) → length s ≡ 16 → IsRun (grown s n)
+is-grown s n h =
+    let l : length (grown s n) ≡ 16 + n = length-grown s h n in
+    let e : length (grown s n) - 16 ≡ n = omega arith in
+    record { long = omega arith; grows = rw (start-grown s n h, e) }

@@ -1,7 +1,8 @@
 -- The stream's blocks, and bytes xored with them. Assumes nothing.
 use mathlib.Core.Path.{_≡_, sym, ap, ap₂, _∙_}
 use mathlib.Core.List.{List, [], _∷_, _++_}
-use Prim.Native.Nat.{ℕ}
+use Prim.Native.Nat.{ℕ, _+_}
+use native.Mathlib.Nat.{zero-add}
 use lib.Dec.{lit<}
 use lib.ListN.{getD}
 use Rattle.words.specs.Sequence.{tab, zeros}
@@ -12,6 +13,7 @@ use Rattle.mem.specs.Mem.{encipher}
 use Rattle.blockplan.specs.Plan.{whole, left, blockAt, ciphered, tagBytes}
 use Rattle.blockplan.proofs.Tags.{word-tag}
 use Rattle.mro.specs.Mro.{counter}
+use Rattle.mro.specs.Streams.{streamFrom, streamedFrom}
 
 -- the counter's block, word by word
 pub counter-words : (b : List ℕ) → Block b → (i : ℕ)
@@ -49,3 +51,14 @@ xored-formed k s =
     ap₂ (λ (a b : List ℕ). a ++ xorBytes (left s) b)
     (cat-ext (λ i. bytesOf (xored k i (blockAt s i))) (λ i. bytesOf (xored (formed k) i (blockAt s i))) (whole s) (λ i h. xored-bytes k i (blockAt s i)))
     (sym (formed-bytes k (whole s)))
+
+-- from block 0 on it is the whole stream
+pub from-first : (rounds : ℕ) (mask tag s : List ℕ) → ciphered (streamedFrom rounds mask tag 0) (streamFrom rounds mask tag 0) s
+    ≡ ciphered (xored (streamAt rounds mask tag)) (streamAt rounds mask tag) s
+unfolding ciphered streamedFrom streamFrom xored streamAt
+from-first rounds mask tag s =
+    let at : (i : ℕ) → encipher rounds mask (counter tag (0 + i)) ≡ encipher rounds mask (counter tag i) = λ i. ap (λ (k : ℕ). encipher rounds mask (counter tag k)) (zero-add i) in
+    ap₂ (λ (a b : List ℕ). a ++ xorBytes (left s) b)
+    (cat-ext (λ i. bytesOf (xorBlock (blockAt s i) (encipher rounds mask (counter tag (0 + i))))) (λ i. bytesOf (xorBlock (blockAt s i) (encipher rounds mask (counter tag i)))) (whole s)
+    (λ i h. ap (λ (b : List ℕ). bytesOf (xorBlock (blockAt s i) b)) (at i)))
+    (ap bytesOf (at (whole s)))

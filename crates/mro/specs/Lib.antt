@@ -1,1 +1,2 @@
 pub mod Mro
+pub mod Streams

@@ -10,7 +10,7 @@ ghost use mathlib.Core.List.{_++_, _∷_, []};
 ghost use lib.ListN.{length};
 ghost use Rattle.words.specs.Sequence.{zeros};
 ghost use Rattle.words.specs.Block.{xorBlock};
-ghost use Rattle.mem.specs.Mem.{E};
+ghost use Rattle.mem.specs.Mem.{encipher as encipherOf, E};
 ghost use Rattle.blockplan.specs.Plan.{xorOver};
 ghost use Rattle.blockplan.specs.Pass.{madeAt, under, stepping};
 ghost use Rattle.mro.specs.Mro.{blocks, mroSum, lengths};
@@ -28,6 +28,22 @@ fn absorb_all(s: &[u8], first: [u64; 16], rounds: u32) -> [u64; 16]
     absorb_left(sum, s, 0, mask, rounds)
 }
 
+// E of the sum xor the two lengths: the block whose first 32 bytes are the tag.
+pub fn tag_under(
+    sum: [u64; 16],
+    header_len: usize,
+    message_len: usize,
+    mask: [u64; 16],
+    rounds: u32,
+) -> [u64; 16]
+    ensures { λ r. ⌜ r ≡ encipherOf rounds mask (xorBlock sum (zeros 14 ++ («header_len» ∷ «message_len» ∷ []))) ⌝ }
+{
+    let h = header_len as u64;
+    let m = message_len as u64;
+    let both = [0, 0, 0, 0, 0, 0, 0, 0, 0, 0, 0, 0, 0, 0, h, m];
+    encipher(xor(sum, both), mask, rounds)
+}
+
 // The block whose first 32 bytes are the tag, from the sum over the message's blocks and the
 // message's length.
 pub fn tag_from(
@@ -40,10 +56,7 @@ pub fn tag_from(
     ensures { λ r. ⌜ r ≡ E rounds start 0 2 0 (xorBlock (xorBlock (xorOver (madeAt (under false rounds (stepping start)) (now (header .entry))) (blocks (now (header .entry)))) «message_sum») (zeros 14 ++ (length (now (header .entry)) ∷ «message_len» ∷ []))) ⌝ }
 {
     let sum = xor(absorb_all(header, start, rounds), message_sum);
-    let h = header.len() as u64;
-    let m = message_len as u64;
-    let both = [0, 0, 0, 0, 0, 0, 0, 0, 0, 0, 0, 0, 0, 0, h, m];
-    encipher(xor(sum, both), beta(beta(start)), rounds)
+    tag_under(sum, header.len(), message_len, beta(beta(start)), rounds)
 }
 
 // The block whose first 32 bytes are the tag.

@@ -106,12 +106,18 @@ module _ (rounds : ℕ) (start s : List ℕ) (l : Block start) where
     two-on true = ap beta (mask-beta start l (whole s) 1 1) ∙ mask-beta start l (whole s) 2 1
     two-on false = ap beta (mask-beta start l (whole s) 0 1) ∙ mask-beta start l (whole s) 1 1
 
-    -- the tag, from a block made of the sum, the message's last mask and the check
+    -- the tag, from a block made of the sum, the tag's mask and the check
+    pub tag-from : (opening : Bool) (header block : List ℕ) {check mask : List ℕ} → check ≡ oppCheck (plain opening rounds start s)
+        → mask ≡ maskAt start (whole s) (cond (hasLeft s) 3 2) 1 → block ≡ xorBlock (oppSum rounds start header) (encipher rounds mask check)
+        → tagBytes block ≡ oppTag rounds start header (plain opening rounds start s)
+    unfolding oppTag E
+    tag-from opening header block {check} {mask} k m e =
+        let at : mask ≡ maskAt start (whole (plain opening rounds start s)) (cond (hasLeft (plain opening rounds start s)) 3 2) 1 =
+        rw (m, whole-plain opening, hasLeft-plain opening) in
+        ap tagBytes (e ∙ ap₂ (λ (n b : List ℕ). xorBlock (oppSum rounds start header) (encipher rounds n b)) at k)
+
+    -- the same from the message's last mask
     pub tag-is : (opening : Bool) (header block : List ℕ) {check mask : List ℕ} → check ≡ oppCheck (plain opening rounds start s)
         → mask ≡ maskAt start (whole s) (cond (hasLeft s) 1 0) 1 → block ≡ xorBlock (oppSum rounds start header) (encipher rounds (beta (beta mask)) check)
         → tagBytes block ≡ oppTag rounds start header (plain opening rounds start s)
-    unfolding oppTag E
-    tag-is opening header block {check} {mask} k m e =
-        let at : beta (beta mask) ≡ maskAt start (whole (plain opening rounds start s)) (cond (hasLeft (plain opening rounds start s)) 3 2) 1 =
-        rw (m, whole-plain opening, hasLeft-plain opening) (two-on (hasLeft s)) in
-        ap tagBytes (e ∙ ap₂ (λ (n b : List ℕ). xorBlock (oppSum rounds start header) (encipher rounds n b)) at k)
+    tag-is opening header block k m e = tag-from opening header block k (ap (λ (n : List ℕ). beta (beta n)) m ∙ two-on (hasLeft s)) e

@@ -31,6 +31,25 @@ fn padded_plain(opening: bool, made: &[u8], given: &[u8]) -> [u64; 16]
     }
 }
 
+// The leftover under its own mask: the sum with its plain form in it.
+pub fn pass_leftover_under(
+    sum: [u64; 16],
+    mask: [u64; 16],
+    rounds: u32,
+    s: &[u8],
+    opening: bool,
+    out: &mut [u8],
+) -> [u64; 16]
+    requires { ⌜ (length (now s) < 128) × (length (now s) ≤ length (now out)) ⌝ }
+    ensures { λ _. ⌜ now (out .exit) ≡ xorBytes (now (s .entry)) (bytesOf (encipherOf rounds mask zeroBlock)) ++ drop (length (now (s .entry))) (now (out .entry)) ⌝ }
+    ensures { λ r. ⌜ r ≡ xorBlock sum (paddedOf (cond opening (xorBytes (now (s .entry)) (bytesOf (encipherOf rounds mask zeroBlock))) (now (s .entry)))) ⌝ }
+{
+    xor_leftover(s, encipher(zero(), mask, rounds), out);
+    let n = s.len();
+    let last = padded_plain(opening, &out[..n], s);
+    xor(sum, last)
+}
+
 // The leftover, under a mask a beta step on from the one after the whole blocks.
 pub fn pass_leftover(blocks: Summed, rounds: u32, s: &[u8], opening: bool, out: &mut [u8]) -> Summed
     requires { ⌜ (length (now s) < 128) × (length (now s) ≤ length (now out)) ⌝ }
@@ -39,11 +58,8 @@ pub fn pass_leftover(blocks: Summed, rounds: u32, s: &[u8], opening: bool, out: 
 {
     let blocks_mask = blocks.mask;
     let mask = beta(blocks_mask);
-    xor_leftover(s, encipher(zero(), mask, rounds), out);
-    let n = s.len();
-    let last = padded_plain(opening, &out[..n], s);
     let before = blocks.sum;
-    let sum = xor(before, last);
+    let sum = pass_leftover_under(before, mask, rounds, s, opening, out);
     Summed { sum, mask }
 }
 

@@ -9,9 +9,9 @@ ghost use Rattle.blockplan.specs.Plan.{whole};
 ghost use Rattle.blockplan.specs.Pass.{stepping, Passed};
 
 pub mod judging;
-mod opening;
+pub mod opening;
 pub mod resealing;
-mod sealing;
+pub mod sealing;
 
 // The whole blocks, sealed or opened: the sum is the check over them, and the mask is one for the next
 // block.

@@ -17,7 +17,13 @@ ghost use Rattle.blockplan.specs.Plan.{whole};
 ghost use Rattle.blockplan.specs.Pass.{stepping, Passed};
 
 // One block opened: D of it to the front of the output, and into the check.
-fn open_block(sum: [u64; 16], mask: [u64; 16], rounds: u32, s: &[u8], out: &mut [u8]) -> [u64; 16]
+pub fn open_block(
+    sum: [u64; 16],
+    mask: [u64; 16],
+    rounds: u32,
+    s: &[u8],
+    out: &mut [u8],
+) -> [u64; 16]
     requires { ⌜ (128 ≤ length (now s)) × (128 ≤ length (now out)) ⌝ }
     ensures { λ _. ⌜ now (out .exit) ≡ bytesOf (decipherOf rounds mask (blockOf (now (s .entry)))) ++ drop 128 (now (out .entry)) ⌝ }
     ensures { λ r. ⌜ r ≡ xorBlock sum (decipherOf rounds mask (blockOf (now (s .entry)))) ⌝ }

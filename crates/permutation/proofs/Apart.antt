@@ -6,7 +6,8 @@ use Prim.Native.Nat.{ℕ, _<_}
 use lib.Dec.{lit<}
 use lib.ListN.{getD, set}
 use lib.Seq.{getD-set-other, set-comm}
-use Rattle.permutation.specs.Permutation.{Quad, pick, put, stepAt}
+use Rattle.permutation.specs.declared.g.Quad.{Quad}
+use Rattle.permutation.specs.Permutation.{pick, put, stepAt}
 use Rattle.permutation.specs.Order.{Apart}
 
 -- ---- a place that is none of the row's

@@ -9,7 +9,8 @@ use Rattle.words.specs.Undo.{Undo}
 use Rattle.words.proofs.Xor.{xor-cancel-r}
 use Rattle.words.proofs.Words.{addW-lt, subW-lt, subW-addW, addW-subW, rotR-lt, rotR-back}
 use Rattle.words.proofs.Maps.{undo-then}
-use Rattle.permutation.specs.Permutation.{Quad, gOf, backGOf}
+use Rattle.permutation.specs.declared.g.Quad.{Quad}
+use Rattle.permutation.specs.Permutation.{gOf, backGOf}
 
 -- four words of 64 bits
 pub record Words (q : Quad) : Type 0 where

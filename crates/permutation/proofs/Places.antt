@@ -10,7 +10,8 @@ use Rattle.words.specs.Block.{Block}
 use Rattle.words.specs.Undo.{Undo}
 use Rattle.words.proofs.Blocks.{set-block}
 use Rattle.words.proofs.Maps.{Keeps}
-use Rattle.permutation.specs.Permutation.{Quad, pick, put, stepAt}
+use Rattle.permutation.specs.declared.g.Quad.{Quad}
+use Rattle.permutation.specs.Permutation.{pick, put, stepAt}
 use Rattle.permutation.proofs.Lines.{Words, quad}
 
 -- four places of a block, no two of them the same

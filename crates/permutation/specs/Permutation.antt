@@ -5,13 +5,7 @@ use lib.ListN.{getD, set}
 use lib.Bits.{bitXor}
 use Rattle.words.specs.Word.{addW, subW, rotR, rotL}
 use Rattle.words.specs.Sequence.{times}
-
--- words a, b, c, d
-pub record Quad : Type 0 where
-  pub a : ℕ
-  pub b : ℕ
-  pub c : ℕ
-  pub d : ℕ
+use Rattle.permutation.specs.declared.g.Quad.{Quad}
 
 -- the step G: its eight lines, as section 8 prints them
 unfoldable pub gOf : Quad → Quad

@@ -1,4 +1,4 @@
 // The permutation P of BLAKE2b with any number of rounds, and the back permutation that undoes it.
-mod g;
+pub mod g;
 pub mod permute;
-mod round;
+pub mod round;

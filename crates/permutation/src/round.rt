@@ -1,6 +1,6 @@
 // A round, and a round undone.
-use crate::g::back_g;
-use crate::g::g;
+use crate::g::back_g_at;
+use crate::g::g_at;
 ghost use mathlib.Core.Path.{_≡_};
 ghost use mathlib.Core.List.{[]};
 ghost use Prim.Native.Nat.{_<_};
@@ -8,7 +8,7 @@ ghost use lib.ListN.{getD};
 ghost use Rattle.permutation.specs.Permutation.{groups, gAt, backGAt, round as roundOf, backRound};
 
 // The eight groups of word numbers, as section 8 prints them: four columns, then four diagonals.
-const GROUPS: [[usize; 4]; 8] = [
+pub const GROUPS: [[usize; 4]; 8] = [
     [0, 4, 8, 12],
     [1, 5, 9, 13],
     [2, 6, 10, 14],
@@ -25,7 +25,7 @@ fn step(s: [u64; 16], k: usize) -> [u64; 16]
     ensures { λ r. ⌜ r ≡ gAt (getD groups k []) s ⌝ }
 {
     let q = GROUPS[k];
-    g(s, q[0], q[1], q[2], q[3])
+    g_at(s, q[0], q[1], q[2], q[3])
 }
 
 // G over group k, undone.
@@ -34,7 +34,7 @@ fn back_step(s: [u64; 16], k: usize) -> [u64; 16]
     ensures { λ r. ⌜ r ≡ backGAt (getD groups k []) s ⌝ }
 {
     let q = GROUPS[k];
-    back_g(s, q[0], q[1], q[2], q[3])
+    back_g_at(s, q[0], q[1], q[2], q[3])
 }
 
 // A round: the table read forward, the columns and then the diagonals. Eight calls, since a loop over the table is not unrolled.

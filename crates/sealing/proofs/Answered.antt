@@ -27,7 +27,7 @@ module _ (n : ℕ) {right : Bool} {out : List ℕ} {o : Bool × List ℕ} (e : (
 
 -- ---- the answer is small
 
-verdict-lt : (n k : ℕ) (r : Bool × List ℕ) → k < n → 0 < n → valueOf (verdict k r .0) < n
+pub verdict-lt : (n k : ℕ) (r : Bool × List ℕ) → k < n → 0 < n → valueOf (verdict k r .0) < n
 unfolding verdict
 verdict-lt n k r h g = pick (λ a. valueOf a < n) (r .0) (Done k) (Refused TagDiffers 0) h g
 

@@ -1,4 +1,4 @@
-//! The calls of `c/baseline.h`, which answer as those of `calmbaize.h` do.
+//! The calls of `c/baseline.h` and `c/avx2.h`, which answer as those of `calmbaize.h` do.
 
 #![no_std]
 
@@ -16,6 +16,25 @@ pub type Sealing = unsafe extern "C" fn(
     *const u8,
     usize,
     *mut u8,
+    usize,
+) -> u64;
+
+/// The type of the calls that lend a run of words: the arguments of [`Sealing`], then the words with
+/// their count.
+pub type RunSealing = unsafe extern "C" fn(
+    u32,
+    u32,
+    *const u8,
+    usize,
+    *const u8,
+    usize,
+    *const u8,
+    usize,
+    *const u8,
+    usize,
+    *mut u8,
+    usize,
+    *mut u64,
     usize,
 ) -> u64;
 
@@ -84,9 +103,81 @@ extern "C" {
         output_len: usize,
     ) -> u64;
 
+    /// Seals from a run of words; the arguments are those of `calmbaize_seal_run`.
+    pub fn baseline_seal_run(
+        mode: u32,
+        rounds: u32,
+        key: *const u8,
+        key_len: usize,
+        nonce: *const u8,
+        nonce_len: usize,
+        header: *const u8,
+        header_len: usize,
+        input: *const u8,
+        input_len: usize,
+        output: *mut u8,
+        output_len: usize,
+        words: *mut u64,
+        words_len: usize,
+    ) -> u64;
+
+    /// Opens from a run of words; the arguments are those of `calmbaize_open_run`.
+    pub fn baseline_open_run(
+        mode: u32,
+        rounds: u32,
+        key: *const u8,
+        key_len: usize,
+        nonce: *const u8,
+        nonce_len: usize,
+        header: *const u8,
+        header_len: usize,
+        input: *const u8,
+        input_len: usize,
+        output: *mut u8,
+        output_len: usize,
+        words: *mut u64,
+        words_len: usize,
+    ) -> u64;
+
     /// Seals under the old start, which the library has no call for; the arguments are those of
     /// `calmbaize_seal`.
     pub fn baseline_seal_old(
+        mode: u32,
+        rounds: u32,
+        key: *const u8,
+        key_len: usize,
+        nonce: *const u8,
+        nonce_len: usize,
+        header: *const u8,
+        header_len: usize,
+        input: *const u8,
+        input_len: usize,
+        output: *mut u8,
+        output_len: usize,
+    ) -> u64;
+
+    /// Seals by AVX2, in OPP alone; the arguments are those of `calmbaize_seal`. The processor must
+    /// have AVX2.
+    #[cfg(target_arch = "x86_64")]
+    pub fn avx2_opp_seal(
+        mode: u32,
+        rounds: u32,
+        key: *const u8,
+        key_len: usize,
+        nonce: *const u8,
+        nonce_len: usize,
+        header: *const u8,
+        header_len: usize,
+        input: *const u8,
+        input_len: usize,
+        output: *mut u8,
+        output_len: usize,
+    ) -> u64;
+
+    /// Opens by AVX2, in OPP alone; the arguments are those of `calmbaize_open`. The processor must
+    /// have AVX2.
+    #[cfg(target_arch = "x86_64")]
+    pub fn avx2_opp_open(
         mode: u32,
         rounds: u32,
         key: *const u8,

@@ -1,10 +1,11 @@
 //! What is measured: implementations, settings, calls and lengths.
 
+use crate::buffer::Buffer;
 use crate::measure::Case;
+use crate::sealing::SealOpen;
 use crate::sodium::Sodium;
 use crate::table::grouped;
-use baseline::Sealing;
-use reference::{Start, MRO, OPP};
+use reference::{MRO, OPP};
 use std::fmt;
 
 /// Message lengths in bytes. The first is a sale record.
@@ -18,18 +19,40 @@ pub const NONCE: [u8; 24] = [0x24; 24];
 /// Who does the work.
 #[derive(Clone, Copy, Debug, PartialEq, Eq)]
 pub enum Implementation {
+    /// The library's stepping engine, on the baseline archive.
     Library,
+    /// Its run engine.
+    LibraryRun,
+    /// The stepping engine on the archive for x86-64-v3.
+    Wide,
+    /// The run engine on that.
+    WideRun,
     ScalarC,
+    ScalarCRun,
+    /// OPP alone.
+    Avx2C,
     Reference,
     XChaCha,
     AesGcm,
+}
+
+impl Implementation {
+    /// Whether it has the mode.
+    pub fn has(self, setting: Setting) -> bool {
+        self != Self::Avx2C || setting.is_some_and(|(mode, _)| mode == OPP)
+    }
 }
 
 impl fmt::Display for Implementation {
     fn fmt(&self, f: &mut fmt::Formatter<'_>) -> fmt::Result {
         f.write_str(match self {
             Self::Library => "Calmbaize",
+            Self::LibraryRun => "Calmbaize, run",
+            Self::Wide => "Calmbaize, x86-64-v3",
+            Self::WideRun => "Calmbaize, x86-64-v3, run",
             Self::ScalarC => "scalar C",
+            Self::ScalarCRun => "scalar C, run",
+            Self::Avx2C => "AVX2 C",
             Self::Reference => "second implementation",
             Self::XChaCha => "XChaCha20-Poly1305",
             Self::AesGcm => "AES-256-GCM",
@@ -141,9 +164,10 @@ const DONE_ALREADY: u64 = 17 << 32;
 pub fn case(
     key: Key,
     tag_len: usize,
-    run: impl Fn(bool, &[u8], &mut [u8]) -> u64 + 'static,
+    mut run: impl FnMut(bool, &[u8], &mut [u8]) -> u64 + 'static,
 ) -> Case<Key> {
-    let (message, mut parcel) = (vec![0x5a; key.len], vec![0; key.len + tag_len]);
+    let message = Buffer::filled(0x5a, key.len);
+    let mut parcel = Buffer::filled(0, key.len + tag_len);
     run(true, &message, &mut parcel);
     if matches!(key.operation, Operation::Refuse | Operation::ConvertRefuse) {
         parcel[key.len] ^= 1;
@@ -159,7 +183,7 @@ pub fn case(
         Operation::Seal => (message, parcel),
         Operation::Open | Operation::Refuse | Operation::OpenOld => (parcel, message),
         Operation::Convert | Operation::ConvertDone | Operation::ConvertRefuse => {
-            let converted = vec![0; parcel.len()];
+            let converted = Buffer::filled(0, parcel.len());
             (parcel, converted)
         }
     };
@@ -173,137 +197,12 @@ pub fn all(sodium: Option<&Sodium>) -> Vec<Case<Key>> {
     for operation in OPERATIONS {
         for len in [0].into_iter().chain(LENGTHS) {
             for setting in settings() {
-                for seal_open in SealOpen::all(operation) {
-                    cases.push(seal_open.case(setting, operation, len));
-                }
+                let all = SealOpen::all(operation).into_iter();
+                cases.extend(all.filter_map(|each| each.case(setting, operation, len)));
             }
             let sodium = sodium.iter().filter(|_| operation.is_of_sodium());
             cases.extend(sodium.flat_map(|sodium| sodium.cases(operation, len)));
         }
     }
     cases
-}
-
-/// An implementation of this construction: what seals the parcels, under one start, and what opens
-/// or converts them.
-#[derive(Clone, Copy)]
-enum SealOpen {
-    Foreign(Implementation, Sealing, Sealing),
-    Reference(Start),
-}
-
-impl SealOpen {
-    fn all(operation: Operation) -> Vec<Self> {
-        match operation {
-            Operation::Seal | Operation::Open | Operation::Refuse => Self::all_new(),
-            Operation::OpenOld => Self::all_old(),
-            Operation::Convert | Operation::ConvertRefuse => {
-                Self::all_converting(baseline::baseline_seal_old)
-            }
-            Operation::ConvertDone => Self::all_converting(baseline::baseline_seal),
-        }
-    }
-
-    fn all_new() -> Vec<Self> {
-        vec![
-            #[cfg(feature = "archive")]
-            Self::Foreign(
-                Implementation::Library,
-                calmbaize::ffi::calmbaize_seal,
-                calmbaize::ffi::calmbaize_open,
-            ),
-            Self::Foreign(
-                Implementation::ScalarC,
-                baseline::baseline_seal,
-                baseline::baseline_open,
-            ),
-            Self::Reference(Start::New),
-        ]
-    }
-
-    /// The library does not seal under the old start.
-    fn all_old() -> Vec<Self> {
-        vec![
-            #[cfg(feature = "archive")]
-            Self::Foreign(
-                Implementation::Library,
-                baseline::baseline_seal_old,
-                calmbaize::ffi::calmbaize_open_old,
-            ),
-            Self::Foreign(
-                Implementation::ScalarC,
-                baseline::baseline_seal_old,
-                baseline::baseline_open_old,
-            ),
-            Self::Reference(Start::Old),
-        ]
-    }
-
-    /// What converts the parcels that `seal` makes.
-    fn all_converting(seal: Sealing) -> Vec<Self> {
-        vec![
-            #[cfg(feature = "archive")]
-            Self::Foreign(
-                Implementation::Library,
-                seal,
-                calmbaize::ffi::calmbaize_convert,
-            ),
-            Self::Foreign(Implementation::ScalarC, seal, baseline::baseline_convert),
-        ]
-    }
-
-    fn case(self, setting: Setting, operation: Operation, len: usize) -> Case<Key> {
-        let implementation = match self {
-            Self::Foreign(implementation, ..) => implementation,
-            Self::Reference(_) => Implementation::Reference,
-        };
-        let settings = setting.expect("a mode and a round count");
-        let key = Key {
-            implementation,
-            setting,
-            operation,
-            len,
-        };
-        case(key, 32, move |seal, input, output| {
-            self.run(settings, seal, input, output)
-        })
-    }
-
-    fn run(self, (mode, rounds): (u32, u32), seal: bool, input: &[u8], output: &mut [u8]) -> u64 {
-        let nonce = &NONCE[..16];
-        match self {
-            Self::Foreign(_, seal_fn, parcel_fn) => {
-                let call = if seal { seal_fn } else { parcel_fn };
-                // SAFETY: each pointer is valid for its length, and the output overlaps nothing.
-                unsafe {
-                    call(
-                        mode,
-                        rounds,
-                        KEY.as_ptr(),
-                        KEY.len(),
-                        nonce.as_ptr(),
-                        nonce.len(),
-                        std::ptr::null(),
-                        0,
-                        input.as_ptr(),
-                        input.len(),
-                        output.as_mut_ptr(),
-                        output.len(),
-                    )
-                }
-            }
-            Self::Reference(start) => {
-                let call = if seal {
-                    reference::seal_under
-                } else {
-                    reference::open_under
-                };
-                let inputs = [&KEY, nonce, &[], input];
-                match call(start, mode, rounds, inputs, output) {
-                    Ok(written) => written as u64,
-                    Err((number, _)) => u64::from(number) << 32,
-                }
-            }
-        }
-    }
 }

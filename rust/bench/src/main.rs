@@ -1,15 +1,20 @@
-//! Cycles per byte and per call: the library beside the second implementation, a version in scalar
-//! C, libsodium's ciphers and the paper's figures; and the calls of the store beside the scalar C.
+//! Cycles per byte and per call: the library's engines and archives beside the second
+//! implementation, a version in scalar C, one of OPP by AVX2, libsodium's ciphers and the paper's
+//! figures; and the calls of the store beside the scalar C.
 
+mod buffer;
 mod cases;
 mod counter;
 mod measure;
+mod paper;
 mod plot;
 mod ratios;
 mod report;
+mod sealing;
 mod sodium;
 mod stores;
 mod table;
+mod wide;
 
 use measure::Samples;
 use ratios::Ratio;
@@ -88,6 +93,9 @@ fn run(options: Options) -> Result<Vec<String>, String> {
     if sodium.is_none() {
         eprintln!("bench: no libsodium found: install libsodium-dev for its rows");
     }
+    if let Some(missing) = wide::missing() {
+        eprintln!("bench: {missing}");
+    }
     let batches = options.batches;
     let samples = Samples::take(&mut cases::all(sodium.as_ref()), batches);
     let stores = Samples::take(&mut stores::all(), batches);
@@ -112,7 +120,9 @@ fn run(options: Options) -> Result<Vec<String>, String> {
         write(&docs, "BENCHMARKS.md", &page)?;
         write(&docs, "benchmarks.svg", &plot::svg(&samples))?;
     }
-    Ok(ratios.iter().filter_map(Ratio::fault).collect())
+    let engines = Ratio::engines(&samples);
+    let all = ratios.iter().chain(&engines);
+    Ok(all.filter_map(Ratio::fault).collect())
 }
 
 fn write(folder: &Path, name: &str, text: &str) -> Result<(), String> {

@@ -1,15 +1,18 @@
-//! The picture: cycles per byte over length, both scales logarithmic, a panel for each mode.
+//! The picture: cycles per byte over length, both scales logarithmic, two panels for each mode: its
+//! round counts, and the engines and archives with the fewest rounds.
 
 use crate::cases::{
     mode_name, setting_name, settings, Implementation, Key, Operation, Setting, LENGTHS,
 };
 use crate::measure::Samples;
+use crate::paper;
 use crate::table::grouped;
 use reference::{MRO, OPP};
 use std::fmt::Write;
 
-/// The modes, each with a panel, the first above the other.
 const MODES: [u32; 2] = [OPP, MRO];
+/// The round count by which engines and archives are shown.
+const ROUNDS: u32 = 4;
 /// A panel's size, and the places within it.
 const WIDTH: f64 = 860.0;
 const HEIGHT: f64 = 500.0;
@@ -17,12 +20,15 @@ const LEFT: f64 = 64.0;
 const RIGHT: f64 = 600.0;
 const TOP: f64 = 48.0;
 const BOTTOM: f64 = 460.0;
-const TICKS: [f64; 9] = [0.5, 1.0, 2.0, 5.0, 10.0, 20.0, 50.0, 100.0, 200.0];
-/// Of a mode's settings.
+/// The lengths at both ends.
+const SHORTEST: f64 = 8.0;
+const LONGEST: f64 = 131_072.0;
+const TICKS: [f64; 10] = [0.2, 0.5, 1.0, 2.0, 5.0, 10.0, 20.0, 50.0, 100.0, 200.0];
+/// Of a mode's settings, or of the engines and the AVX2 C.
 const COLOURS: [&str; 8] = [
     "#0072b2", "#d55e00", "#cc79a7", "#e69f00", "#56b4e9", "#8c510a", "#6a3d9a", "#a6cee3",
 ];
-/// Of libsodium's ciphers.
+/// Of libsodium's ciphers, or of the scalar C and the paper.
 const OTHERS: [&str; 2] = ["#009e73", "#555555"];
 
 struct Line {
@@ -34,52 +40,60 @@ struct Line {
 
 /// The picture of sealing, as SVG.
 pub fn svg(samples: &Samples<Key>) -> String {
-    let height = HEIGHT * MODES.len() as f64;
+    let panels = MODES.map(|mode| {
+        let name = mode_name(mode);
+        [
+            (name.to_string(), by_rounds(samples, mode)),
+            (
+                format!("{name}, {ROUNDS} rounds, by engines and archives"),
+                by_engines(samples, mode),
+            ),
+        ]
+    });
+    let panels = panels.as_flattened();
+    let height = HEIGHT * panels.len() as f64;
     let mut svg = format!(
         "<svg xmlns=\"http://www.w3.org/2000/svg\" viewBox=\"0 0 {WIDTH} {height}\" \
          font-family=\"sans-serif\" font-size=\"13\">\n\
          <rect width=\"100%\" height=\"100%\" fill=\"white\"/>\n"
     );
-    for (i, mode) in MODES.into_iter().enumerate() {
+    for (i, (name, lines)) in panels.iter().enumerate() {
         let down = HEIGHT * i as f64;
         push(
             &mut svg,
             format_args!("<g transform=\"translate(0 {down})\">"),
         );
-        panel(&mut svg, samples, mode);
+        panel(&mut svg, name, lines);
         push(&mut svg, format_args!("</g>"));
     }
     svg.push_str("</svg>\n");
     svg
 }
 
-fn panel(svg: &mut String, samples: &Samples<Key>, mode: u32) {
-    let name = mode_name(mode);
+fn panel(svg: &mut String, name: &str, lines: &[Line]) {
     let title = format!("Sealing with {name}: cycles per byte over message length in bytes");
     text(svg, LEFT, 24.0, "start", &title);
     axes(svg);
-    for (i, line) in lines(samples, mode).iter().enumerate() {
+    let drawn = lines.iter().filter(|line| !line.points.is_empty());
+    for (i, line) in drawn.enumerate() {
         draw(svg, line, 70.0 + 24.0 * i as f64);
     }
 }
 
 /// A mode with each round count, and libsodium's ciphers.
-fn lines(samples: &Samples<Key>, mode: u32) -> Vec<Line> {
+fn by_rounds(samples: &Samples<Key>, mode: u32) -> Vec<Line> {
     let mut lines = Vec::new();
     let mut add = |implementation: Implementation, setting, colour, dashed| {
         let name = match setting {
             Some(_) => format!("{}, {implementation}", setting_name(setting)),
             None => implementation.to_string(),
         };
-        let points = points(samples, implementation, setting);
-        if !points.is_empty() {
-            lines.push(Line {
-                name,
-                colour,
-                dashed,
-                points,
-            });
-        }
+        lines.push(Line {
+            name,
+            colour,
+            dashed,
+            points: points(samples, implementation, setting),
+        });
     };
     let of_mode = |setting: &Setting| setting.is_some_and(|(m, _)| m == mode);
     for (i, setting) in settings().into_iter().filter(of_mode).enumerate() {
@@ -89,6 +103,34 @@ fn lines(samples: &Samples<Key>, mode: u32) -> Vec<Line> {
     }
     add(Implementation::XChaCha, None, OTHERS[0], false);
     add(Implementation::AesGcm, None, OTHERS[1], false);
+    lines
+}
+
+/// A mode with one round count: the engines on both archives, what is written by hand, the paper's.
+fn by_engines(samples: &Samples<Key>, mode: u32) -> Vec<Line> {
+    let setting = Some((mode, ROUNDS));
+    let shown = [
+        (Implementation::Library, COLOURS[0], false),
+        (Implementation::LibraryRun, COLOURS[1], false),
+        (Implementation::Wide, COLOURS[2], false),
+        (Implementation::WideRun, COLOURS[3], false),
+        (Implementation::ScalarC, OTHERS[0], true),
+        (Implementation::Avx2C, COLOURS[5], true),
+    ];
+    let lines = shown.map(|(implementation, colour, dashed)| Line {
+        name: implementation.to_string(),
+        colour,
+        dashed,
+        points: points(samples, implementation, setting),
+    });
+    let mut lines = Vec::from(lines);
+    let paper = paper::avx2(setting).and_then(|figure| figure.parse().ok());
+    lines.extend(paper.map(|figure| Line {
+        name: "the paper's AVX2".into(),
+        colour: OTHERS[1],
+        dashed: true,
+        points: vec![(SHORTEST, figure), (LONGEST, figure)],
+    }));
     lines
 }
 
@@ -114,14 +156,14 @@ fn points(
 
 /// The places of a length and of a figure in the picture.
 fn place(len: f64, figure: f64) -> (f64, f64) {
-    let across = (len / 8.0).ln() / (131_072.0f64 / 8.0).ln();
+    let across = (len / SHORTEST).ln() / (LONGEST / SHORTEST).ln();
     let up = (figure / TICKS[0]).ln() / (TICKS[TICKS.len() - 1] / TICKS[0]).ln();
     (LEFT + across * (RIGHT - LEFT), BOTTOM - up * (BOTTOM - TOP))
 }
 
 fn axes(svg: &mut String) {
     for tick in TICKS {
-        let (_, y) = place(8.0, tick);
+        let (_, y) = place(SHORTEST, tick);
         rule(svg, (LEFT, y), (RIGHT, y));
         text(svg, LEFT - 8.0, y + 4.0, "end", &tick.to_string());
     }

@@ -4,6 +4,7 @@ use crate::cases::Operation::{Convert, ConvertDone, ConvertRefuse, Open, OpenOld
 use crate::cases::{settings, Implementation, Key, Operation, Setting, SALE};
 use crate::measure::Samples;
 use crate::stores::{StoreKey, CALLS, CELLS};
+use crate::wide;
 use reference::{MRO, OPP};
 use std::fmt;
 
@@ -157,6 +158,79 @@ impl fmt::Display for By {
     }
 }
 
+/// How long the messages are by which engines and archives are compared.
+pub const ENGINES_LEN: usize = 65_536;
+
+/// The calls by which they are.
+pub fn engine_calls() -> impl Iterator<Item = (Setting, Operation)> {
+    let settings = settings().into_iter();
+    settings.flat_map(|setting| [Seal, Open].map(|operation| (setting, operation)))
+}
+
+/// An engine of an archive, and the most that it may take of another implementation's time.
+pub struct EngineBound {
+    implementation: Implementation,
+    by: Implementation,
+    pub most: f64,
+}
+
+/// In every mode and round count that both have.
+pub const ENGINES: [EngineBound; 3] = [
+    EngineBound {
+        implementation: Implementation::LibraryRun,
+        by: Implementation::Library,
+        most: 1.05,
+    },
+    EngineBound {
+        implementation: Implementation::WideRun,
+        by: Implementation::Library,
+        most: 0.55,
+    },
+    EngineBound {
+        implementation: Implementation::WideRun,
+        by: Implementation::Avx2C,
+        most: 1.0,
+    },
+];
+
+impl EngineBound {
+    /// The ratio of a call, if both have the mode.
+    pub fn ratio(
+        &self,
+        samples: &Samples<Key>,
+        setting: Setting,
+        operation: Operation,
+    ) -> Option<Ratio> {
+        let key = |implementation| Key {
+            implementation,
+            setting,
+            operation,
+            len: ENGINES_LEN,
+        };
+        self.by.has(setting).then(|| Ratio {
+            name: format!("{}, {self}", key(self.implementation)),
+            measured: samples.ratio(key(self.implementation), &[key(self.by)]),
+            bound: self.most,
+        })
+    }
+
+    /// All of them. Where the archive for x86-64-v3 can't be measured, its bounds do not count.
+    fn ratios(&self, samples: &Samples<Key>) -> Vec<Ratio> {
+        if self.implementation == Implementation::WideRun && wide::missing().is_some() {
+            return Vec::new();
+        }
+        engine_calls()
+            .filter_map(|(setting, operation)| self.ratio(samples, setting, operation))
+            .collect()
+    }
+}
+
+impl fmt::Display for EngineBound {
+    fn fmt(&self, f: &mut fmt::Formatter<'_>) -> fmt::Result {
+        write!(f, "{}, by {}", self.implementation, self.by)
+    }
+}
+
 /// The most that a call of the store may take of the scalar C version's time.
 const STORE_BY_SCALAR_C: f64 = 1.2;
 /// How much longer a call may take where there are eight times the cells: linear and a tenth.
@@ -201,11 +275,22 @@ pub struct Ratio {
 }
 
 impl Ratio {
-    /// All that have a bound. Without the archive there is nothing to hold against one.
+    /// All that have a bound, but for those between engines. Without the archive there is nothing to
+    /// hold against one.
     pub fn all(samples: &Samples<Key>, stores: &Samples<StoreKey>) -> Vec<Self> {
         if cfg!(feature = "archive") {
             let sealing = BOUNDS.iter().flat_map(|bound| bound.ratios(samples));
             sealing.chain(store_ratios(stores)).collect()
+        } else {
+            Vec::new()
+        }
+    }
+
+    /// Those between engines.
+    pub fn engines(samples: &Samples<Key>) -> Vec<Self> {
+        if cfg!(feature = "archive") {
+            let bounds = ENGINES.iter();
+            bounds.flat_map(|bound| bound.ratios(samples)).collect()
         } else {
             Vec::new()
         }
@@ -278,5 +363,46 @@ mod tests {
             assert_eq!(faults_of_conversions(&times), faults, "{wholes:?}");
         }
         assert_eq!(faults_of_conversions(&parts), 3 * each);
+    }
+
+    /// How many calls are above each bound of the engines where all take these times.
+    fn faults_of_engines(times: &[(Implementation, f64)]) -> [usize; 3] {
+        let series = engine_calls().flat_map(|(setting, operation)| {
+            times.iter().map(move |&(implementation, time)| {
+                let key = Key {
+                    implementation,
+                    setting,
+                    operation,
+                    len: ENGINES_LEN,
+                };
+                (key, vec![time])
+            })
+        });
+        let samples = Samples::made_up(series.collect());
+        ENGINES.each_ref().map(|bound| {
+            let ratios =
+                engine_calls().filter_map(|(setting, call)| bound.ratio(&samples, setting, call));
+            ratios.filter_map(|ratio| ratio.fault()).count()
+        })
+    }
+
+    #[test]
+    fn engines_are_held_against_each_other_and_against_avx2() {
+        let (both, opp) = (engine_calls().count(), engine_calls().count() / 2);
+        for (run, wide_run, avx2, faults) in [
+            (105.0, 55.0, 55.0, [0, 0, 0]),
+            (106.0, 55.0, 55.0, [both, 0, 0]),
+            (105.0, 56.0, 56.0, [0, both, 0]),
+            (105.0, 55.0, 54.0, [0, 0, opp]),
+        ] {
+            let times = [
+                (Implementation::Library, 100.0),
+                (Implementation::LibraryRun, run),
+                (Implementation::WideRun, wide_run),
+                (Implementation::Avx2C, avx2),
+            ];
+            assert_eq!(faults_of_engines(&times), faults, "{times:?}");
+        }
+        assert_eq!(faults_of_engines(&[]), [both, both, opp]);
     }
 }

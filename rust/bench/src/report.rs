@@ -3,17 +3,44 @@
 use crate::cases::{setting_name, settings, Implementation, Key, Operation, LENGTHS, OPERATIONS};
 use crate::counter;
 use crate::measure::Samples;
-use crate::ratios::Ratio;
+use crate::paper;
+use crate::ratios::{engine_calls, Ratio, ENGINES, ENGINES_LEN};
 use crate::stores::{StoreKey, CALLS, CELLS};
 use crate::table::{grouped, Table};
+use crate::wide;
 use std::fmt::Write;
 
-const CONSTRUCTION: [Implementation; 3] = [
+const CONSTRUCTION: [Implementation; 8] = [
     Implementation::Library,
+    Implementation::LibraryRun,
+    Implementation::Wide,
+    Implementation::WideRun,
     Implementation::ScalarC,
+    Implementation::ScalarCRun,
+    Implementation::Avx2C,
     Implementation::Reference,
 ];
+/// The engines on both archives, and what they are held against.
+const COMPARED: [Implementation; 5] = [
+    Implementation::Library,
+    Implementation::LibraryRun,
+    Implementation::Wide,
+    Implementation::WideRun,
+    Implementation::Avx2C,
+];
 const SODIUM: [Implementation; 2] = [Implementation::XChaCha, Implementation::AesGcm];
+
+/// What stands below the figures of the engines.
+const ENGINES_TEXT: &str = "Calmbaize alone is the stepping engine, `calmbaize_seal` and \
+    `calmbaize_open`, on the archive in `dist/`; x86-64-v3 is the archive in `dist/x86-64-v3/`. \
+    \"run\" is the run engine, `calmbaize_seal_run` and `calmbaize_open_run`: each call grows its run \
+    of words, and that is timed with it. The AVX2 C is OPP written by hand with intrinsics, four \
+    blocks side by side (`c/avx2.c`). The paper's figures are of its AVX2 code on Haswell.\n\n";
+
+/// What stands below the ratios of the engines.
+const ENGINE_BOUNDS: &str =
+    "`make bench` fails where a ratio is above its bound. The aim of the run \
+    engine on the archive for x86-64-v3 is 0.45 by the stepping engine.\n\n";
 
 /// What stands below the figures of the store.
 const STORES: &str =
@@ -52,6 +79,7 @@ pub fn page(
     let mut page = heading(setup);
     let per_byte = |cycles: f64, len: usize| format!("{:.2}", cycles / len as f64);
     let per_call = |cycles: f64, _: usize| grouped(cycles.round() as usize);
+    engines(&mut page, samples);
     section(&mut page, "Cycles per byte", &figures(samples, per_byte));
     section(&mut page, "Cycles per call", &figures(samples, per_call));
     section(
@@ -71,7 +99,7 @@ pub fn page(
     section(
         &mut page,
         "The paper's table 2, cycles per byte for long messages",
-        &paper(),
+        &paper::table(),
     );
     if !setup.gate.is_empty() {
         section(&mut page, "The gate's time by crate", &gate(&setup.gate));
@@ -95,6 +123,75 @@ fn heading(setup: &Setup) -> String {
 
 fn section(page: &mut String, title: &str, table: &Table) {
     write!(page, "## {title}\n\n{table}\n").expect("a string takes all");
+}
+
+/// Engines and archives side by side: cycles per byte, then the ratios that have a bound.
+fn engines(page: &mut String, samples: &Samples<Key>) {
+    section(
+        page,
+        &format!(
+            "Engines and archives, cycles per byte at {} bytes",
+            grouped(ENGINES_LEN)
+        ),
+        &engine_figures(samples),
+    );
+    page.push_str(ENGINES_TEXT);
+    section(
+        page,
+        "Engines and archives, ratios",
+        &engine_ratios(samples),
+    );
+    page.push_str(ENGINE_BOUNDS);
+    if let Some(missing) = wide::missing() {
+        write!(page, "Here {missing}.\n\n").expect("a string takes all");
+    }
+}
+
+fn engine_figures(samples: &Samples<Key>) -> Table {
+    let names = COMPARED.map(|implementation| implementation.to_string());
+    let mut heading = vec!["", "call"];
+    heading.extend(names.iter().map(String::as_str));
+    heading.push("the paper's AVX2");
+    let mut table = Table::new(2, &heading);
+    for (setting, operation) in engine_calls() {
+        let figures = COMPARED.map(|implementation| {
+            let cycles = samples.cycles(Key {
+                implementation,
+                setting,
+                operation,
+                len: ENGINES_LEN,
+            });
+            figure(cycles.map(|cycles| cycles / ENGINES_LEN as f64), 2)
+        });
+        let names = [setting_name(setting), operation.to_string()];
+        let paper = paper::avx2(setting).unwrap_or_default().to_string();
+        table.row(names.into_iter().chain(figures).chain([paper]).collect());
+    }
+    table
+}
+
+fn engine_ratios(samples: &Samples<Key>) -> Table {
+    let names = ENGINES.each_ref().map(ToString::to_string);
+    let mut heading = vec!["", "call"];
+    heading.extend(names.iter().map(String::as_str));
+    let mut table = Table::new(2, &heading);
+    for (setting, operation) in engine_calls() {
+        let ratios = ENGINES.each_ref().map(|bound| {
+            let ratio = bound.ratio(samples, setting, operation);
+            figure(ratio.and_then(|ratio| ratio.measured), 3)
+        });
+        let names = [setting_name(setting), operation.to_string()];
+        table.row(names.into_iter().chain(ratios).collect());
+    }
+    let bounds = ENGINES.each_ref().map(|bound| figure(Some(bound.most), 2));
+    let names = ["at most".to_string(), String::new()];
+    table.row(names.into_iter().chain(bounds).collect());
+    table
+}
+
+/// A figure to so many decimals, or nothing.
+fn figure(figure: Option<f64>, decimals: usize) -> String {
+    figure.map_or(String::new(), |figure| format!("{figure:.decimals$}"))
 }
 
 /// Every case, one row for all its lengths.
@@ -207,42 +304,6 @@ fn growth(samples: &Samples<Key>) -> Table {
                 }
             }
         }
-    }
-    table
-}
-
-/// Vector code on the paper's machines.
-fn paper() -> Table {
-    let heading = [
-        "platform", "code", "OPP, 4", "MRO, 4", "MRS, 4", "OPP, 6", "MRO, 6", "MRS, 6",
-    ];
-    let mut table = Table::new(2, &heading);
-    for row in [
-        [
-            "Cortex-A8",
-            "NEON",
-            "4.26",
-            "8.07",
-            "8.50",
-            "5.91",
-            "11.32",
-            "12.21",
-        ],
-        [
-            "Sandy Bridge",
-            "AVX",
-            "1.24",
-            "2.41",
-            "2.55",
-            "1.91",
-            "3.58",
-            "3.87",
-        ],
-        [
-            "Haswell", "AVX2", "0.55", "1.06", "2.40", "0.75", "1.39", "3.58",
-        ],
-    ] {
-        table.row(row.map(String::from).to_vec());
     }
     table
 }

@@ -1,5 +1,6 @@
 //! The calls of the sale store that are measured.
 
+use crate::buffer::Buffer;
 use crate::cases::{Implementation, KEY};
 use crate::measure::Case;
 use crate::table::grouped;
@@ -9,8 +10,6 @@ use std::fmt;
 pub const CELLS: [usize; 3] = [16, 128, 1024];
 
 const CELL: usize = 64;
-/// Every store begins with a page, so that no implementation gets a better place than another.
-const PAGE: usize = 4096;
 const MACHINE: u32 = 7;
 const TAIL: [u8; 8] = [0x24; 8];
 const CLOCK: [u8; 6] = [0x5a; 6];
@@ -138,21 +137,20 @@ impl Calls {
             cells,
         };
         let kept = half_full(cells);
-        let mut store = Store::new(cells);
-        store.bytes().copy_from_slice(&kept);
+        let mut store = Buffer::filled(0, kept.len());
+        store.copy_from_slice(&kept);
         let sales = cells as u32 / 2;
-        self.make(call, store.bytes(), sales);
+        self.make(call, &mut store, sales);
         let changed: Vec<usize> = (0..kept.len())
             .step_by(CELL)
-            .filter(|&at| store.bytes()[at..at + CELL] != kept[at..at + CELL])
+            .filter(|&at| store[at..at + CELL] != kept[at..at + CELL])
             .collect();
         let name = format!("{key}, {}", key.implementation);
         Case::new(key, name, wanted(call, sales), move || {
-            let store = store.bytes();
             for &at in &changed {
                 store[at..at + CELL].copy_from_slice(&kept[at..at + CELL]);
             }
-            self.make(call, store, sales)
+            self.make(call, &mut store, sales)
         })
     }
 
@@ -234,24 +232,4 @@ fn half_full(cells: usize) -> Vec<u8> {
         assert_eq!(SCALAR_C.take(&mut store, sale), sale.into());
     }
     store
-}
-
-/// A store that begins with a page.
-struct Store {
-    buffer: Vec<u8>,
-    begin: usize,
-    len: usize,
-}
-
-impl Store {
-    fn new(cells: usize) -> Self {
-        let len = cells * CELL;
-        let buffer = vec![0; len + PAGE];
-        let begin = buffer.as_ptr().align_offset(PAGE);
-        Self { buffer, begin, len }
-    }
-
-    fn bytes(&mut self) -> &mut [u8] {
-        &mut self.buffer[self.begin..self.begin + self.len]
-    }
 }

@@ -1,6 +1,6 @@
 //! Seal, open and convert under one key.
 
-use crate::{slices, Key, Mode, Nonce, Refusal, Rounds};
+use crate::{slices, Key, Mode, Nonce, Refusal, Rounds, BLOCK_LEN};
 
 /// Authenticated encryption under one mode, round count and key.
 ///
@@ -201,4 +201,114 @@ impl Aead {
         let (key, nonce) = (self.key.bytes(), nonce.bytes());
         slices::convert(mode, rounds, key, nonce, header.0, parcel, output)
     }
+
+    /// Seals as [`seal`](Self::seal) does, the same parcel, with all masks from one run of words, which
+    /// it makes in `words`. It works on four blocks in a turn, which the archive for x86-64-v3 gains
+    /// from.
+    ///
+    /// The first [`run_words`]`(header.0.len(), message.len())` of `words` hold the run then, and the
+    /// rest is unchanged. What `words` held before does not matter. The masks are as secret as the key:
+    /// keep `words` private, and overwrite it when done.
+    ///
+    /// # Errors
+    ///
+    /// Those of [`seal`](Self::seal), and [`Ground::OutputTooShort`] too where `words` is shorter than
+    /// the run. No byte of `output` and no word changes then.
+    ///
+    /// # Examples
+    ///
+    /// ```
+    /// use calmbaize::{run_words, Aead, Ground, Header, Key, Mode, Nonce, Refusal, Rounds};
+    ///
+    /// let aead = Aead::new(Mode::Mro, Rounds::Four, Key::new([7; 32]));
+    /// let (nonce, header, message) = (Nonce::new([1; 16]), Header::default(), [5; 1000]);
+    /// let (mut parcel, mut same) = ([0; 1032], [0; 1032]);
+    /// let mut words = [0; run_words(0, 1000)];
+    /// aead.seal_run(&nonce, header, &message, &mut parcel, &mut words)?;
+    /// aead.seal(&nonce, header, &message, &mut same)?;
+    /// assert_eq!(parcel, same);
+    /// let few = aead.seal_run(&nonce, header, &message, &mut parcel, &mut words[1..]);
+    /// assert_eq!(few, Err(Ground::OutputTooShort.into()));
+    /// # Ok::<(), Refusal>(())
+    /// ```
+    ///
+    /// [`Ground::OutputTooShort`]: crate::Ground::OutputTooShort
+    pub fn seal_run(
+        &self,
+        nonce: &Nonce,
+        header: Header<'_>,
+        message: &[u8],
+        output: &mut [u8],
+        words: &mut [u64],
+    ) -> Result<usize, Refusal> {
+        let (mode, rounds) = (self.mode as u32, self.rounds.count());
+        let (key, nonce) = (self.key.bytes(), nonce.bytes());
+        slices::seal_run(mode, rounds, key, nonce, header.0, message, output, words)
+    }
+
+    /// Opens as [`open`](Self::open) does, with all masks from one run of words, as
+    /// [`seal_run`](Self::seal_run) does. Both open the same parcels.
+    ///
+    /// The first [`run_words`]`(header.0.len(), parcel.len() - TAG_LEN)` of `words` hold the run then,
+    /// and the rest is unchanged. What `words` held before does not matter. The masks are as secret as
+    /// the key: keep `words` private, and overwrite it when done.
+    ///
+    /// # Errors
+    ///
+    /// Those of [`open`](Self::open), and [`Ground::OutputTooShort`] too where `words` is shorter than
+    /// the run. On [`Ground::Tag`] `output` is cleared as [`open`](Self::open) clears it, and `words`
+    /// hold the run; on every other one no byte of `output` and no word changes.
+    ///
+    /// # Examples
+    ///
+    /// ```
+    /// use calmbaize::{run_words, Aead, Ground, Header, Key, Mode, Nonce, Refusal, Rounds};
+    ///
+    /// let aead = Aead::new(Mode::Opp, Rounds::Four, Key::new([7; 32]));
+    /// let (nonce, header) = (Nonce::new([1; 16]), Header(b"machine 11"));
+    /// let (mut parcel, mut message, mut words) = ([0; 35], [0; 3], [0; run_words(10, 3)]);
+    /// aead.seal(&nonce, header, b"tea", &mut parcel)?;
+    /// let answer = aead.open_run(&nonce, header, &parcel, &mut message, &mut words);
+    /// assert_eq!((answer, &message), (Ok(3), b"tea"));
+    /// parcel[0] ^= 1;
+    /// let answer = aead.open_run(&nonce, header, &parcel, &mut message, &mut words);
+    /// assert_eq!((answer, message), (Err(Ground::Tag.into()), [0; 3]));
+    /// # Ok::<(), Refusal>(())
+    /// ```
+    ///
+    /// [`Ground::OutputTooShort`]: crate::Ground::OutputTooShort
+    /// [`Ground::Tag`]: crate::Ground::Tag
+    pub fn open_run(
+        &self,
+        nonce: &Nonce,
+        header: Header<'_>,
+        parcel: &[u8],
+        output: &mut [u8],
+        words: &mut [u64],
+    ) -> Result<usize, Refusal> {
+        let (mode, rounds) = (self.mode as u32, self.rounds.count());
+        let (key, nonce) = (self.key.bytes(), nonce.bytes());
+        slices::open_run(mode, rounds, key, nonce, header.0, parcel, output, words)
+    }
+}
+
+/// The words that [`Aead::seal_run`] and [`Aead::open_run`] need for a header and a message of these
+/// lengths: one for each whole block of the longer of them, and 21.
+///
+/// For lengths that these calls take it is at most [`MAX_RUN_WORDS`](crate::MAX_RUN_WORDS). Keep the
+/// words private, and overwrite them when done.
+///
+/// ```
+/// use calmbaize::{run_words, MAX_HEADER_LEN, MAX_MESSAGE_LEN, MAX_RUN_WORDS};
+///
+/// assert_eq!((run_words(0, 0), run_words(255, 128)), (21, 22));
+/// assert_eq!(run_words(MAX_HEADER_LEN, MAX_MESSAGE_LEN), MAX_RUN_WORDS);
+/// ```
+pub const fn run_words(header_len: usize, message_len: usize) -> usize {
+    let longer = if header_len > message_len {
+        header_len
+    } else {
+        message_len
+    };
+    longer / BLOCK_LEN + 21
 }

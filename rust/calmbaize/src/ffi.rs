@@ -69,6 +69,42 @@ extern "C" {
         output_len: usize,
     ) -> u64;
 
+    /// See [`slices::seal_run`](crate::slices::seal_run).
+    pub fn calmbaize_seal_run(
+        mode: u32,
+        rounds: u32,
+        key: *const u8,
+        key_len: usize,
+        nonce: *const u8,
+        nonce_len: usize,
+        header: *const u8,
+        header_len: usize,
+        input: *const u8,
+        input_len: usize,
+        output: *mut u8,
+        output_len: usize,
+        words: *mut u64,
+        words_len: usize,
+    ) -> u64;
+
+    /// See [`slices::open_run`](crate::slices::open_run).
+    pub fn calmbaize_open_run(
+        mode: u32,
+        rounds: u32,
+        key: *const u8,
+        key_len: usize,
+        nonce: *const u8,
+        nonce_len: usize,
+        header: *const u8,
+        header_len: usize,
+        input: *const u8,
+        input_len: usize,
+        output: *mut u8,
+        output_len: usize,
+        words: *mut u64,
+        words_len: usize,
+    ) -> u64;
+
     /// See [`slices::walk`](crate::slices::walk).
     pub fn calmbaize_walk(
         start: *const u8,

@@ -10,6 +10,10 @@
 //! the message and not sent. [`walk()`] and [`jump()`] step the masks that the construction is built
 //! on; a mask is as secret as the key. [`Store`] keeps sealed sales in a lent buffer.
 //!
+//! [`Aead::seal_run`] and [`Aead::open_run`] do what seal and open do, and take all masks from one run
+//! in a lent buffer of words, as many as [`run_words`] tells. The words are as secret as the key: keep
+//! them private, and overwrite them when done.
+//!
 //! | Mode | Repeated nonce | Passes over the message |
 //! |---|---|---|
 //! | [`Mode::Opp`] | never | one |
@@ -50,7 +54,7 @@ mod settings;
 pub mod slices;
 mod store;
 
-pub use aead::{Aead, Header};
+pub use aead::{run_words, Aead, Header};
 pub use key::{Key, Nonce};
 pub use masks::{jump, walk, Step};
 pub use refusal::{Ground, Refusal};
@@ -70,6 +74,8 @@ pub const BLOCK_LEN: usize = 128;
 pub const MAX_HEADER_LEN: usize = 4096;
 /// The longest message in bytes.
 pub const MAX_MESSAGE_LEN: usize = 65_536;
+/// The longest run, in words.
+pub const MAX_RUN_WORDS: usize = 533;
 /// The longest list of steps.
 pub const MAX_STEPS: usize = 4096;
 /// The largest net count; the smallest is its negative.

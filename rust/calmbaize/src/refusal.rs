@@ -101,7 +101,7 @@ grounds! {
     4 NonceLength "nonce is not 16 bytes",
     5 HeaderTooLong "header is over 4,096 bytes",
     6 InputTooLong "message is over 65,536 bytes, or parcel over 65,568",
-    7 OutputTooShort "output is shorter than what success writes",
+    7 OutputTooShort "output, or a buffer of words, is shorter than what success writes",
     8 InputTooShort "parcel is under 32 bytes",
     9 Tag "tag differs{cell}",
     10 StartLength "start is not 128 bytes",

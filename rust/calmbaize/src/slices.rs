@@ -40,7 +40,7 @@ pub fn seal(
     output: &mut [u8],
 ) -> Result<usize, Refusal> {
     let inputs = [key, nonce, header, message];
-    run(Call::Seal, mode, rounds, inputs, output)
+    answer(Call::Seal, mode, rounds, inputs, output)
 }
 
 /// Verifies and decrypts `parcel` and writes its message to the first `parcel.len() - TAG_LEN`
@@ -75,7 +75,7 @@ pub fn open(
     output: &mut [u8],
 ) -> Result<usize, Refusal> {
     let inputs = [key, nonce, header, parcel];
-    run(Call::Open, mode, rounds, inputs, output)
+    answer(Call::Open, mode, rounds, inputs, output)
 }
 
 /// Verifies and decrypts `parcel` as [`open`] does, but under the old start, that of versions before
@@ -107,7 +107,7 @@ pub fn open_old(
     output: &mut [u8],
 ) -> Result<usize, Refusal> {
     let inputs = [key, nonce, header, parcel];
-    run(Call::OpenOld, mode, rounds, inputs, output)
+    answer(Call::OpenOld, mode, rounds, inputs, output)
 }
 
 /// Seals the message of `parcel`, one of the old start, again under the new start with the same
@@ -145,7 +145,85 @@ pub fn convert(
     output: &mut [u8],
 ) -> Result<usize, Refusal> {
     let inputs = [key, nonce, header, parcel];
-    run(Call::Convert, mode, rounds, inputs, output)
+    answer(Call::Convert, mode, rounds, inputs, output)
+}
+
+/// Seals as [`seal`] does, the same parcel, with all masks from one run of words, which it makes in
+/// `words`.
+///
+/// The first [`run_words`](crate::run_words)`(header.len(), message.len())` of `words` hold the run
+/// then, and the rest is unchanged. What `words` held before does not matter. The masks are as secret
+/// as the key: keep `words` private, and overwrite it when done.
+///
+/// # Errors
+///
+/// Those of [`seal`], and 7 too where `words` is shorter than the run. No byte of `output` and no word
+/// changes then.
+///
+/// # Examples
+///
+/// ```
+/// use calmbaize::{run_words, slices, Ground};
+///
+/// let (mut parcel, mut words) = ([0; 35], [0; run_words(0, 3)]);
+/// let answer = slices::seal_run(1, 4, &[0; 32], &[0; 16], b"", b"tea", &mut parcel, &mut words);
+/// assert_eq!(answer, Ok(35));
+/// let few = &mut words[1..];
+/// let answer = slices::seal_run(1, 4, &[0; 32], &[0; 16], b"", b"tea", &mut parcel, few);
+/// assert_eq!(answer, Err(Ground::OutputTooShort.into()));
+/// ```
+#[expect(clippy::too_many_arguments, reason = "they are those of the C call")]
+pub fn seal_run(
+    mode: u32,
+    rounds: u32,
+    key: &[u8],
+    nonce: &[u8],
+    header: &[u8],
+    message: &[u8],
+    output: &mut [u8],
+    words: &mut [u64],
+) -> Result<usize, Refusal> {
+    let inputs = [key, nonce, header, message];
+    answer_from_run(RunCall::Seal, mode, rounds, inputs, output, words)
+}
+
+/// Opens as [`open`] does, with all masks from one run of words, which it makes in `words`. It opens
+/// what [`open`] opens.
+///
+/// The first [`run_words`](crate::run_words)`(header.len(), parcel.len() - TAG_LEN)` of `words` hold
+/// the run then, and the rest is unchanged. What `words` held before does not matter. The masks are as
+/// secret as the key: keep `words` private, and overwrite it when done.
+///
+/// # Errors
+///
+/// Those of [`open`], and 7 too where `words` is shorter than the run. On 9 `output` is cleared as
+/// [`open`] clears it, and `words` hold the run; on every other one no byte of `output` and no word
+/// changes.
+///
+/// # Examples
+///
+/// ```
+/// use calmbaize::{run_words, slices, Ground};
+///
+/// let (mut message, mut words) = ([0xaa; 5], [0; run_words(0, 4)]);
+/// let parcel = [1; 36];
+/// let answer = slices::open_run(1, 4, &[0; 32], &[0; 16], b"", &parcel, &mut message, &mut words);
+/// assert_eq!(answer, Err(Ground::Tag.into()));
+/// assert_eq!(message, [0, 0, 0, 0, 0xaa]);
+/// ```
+#[expect(clippy::too_many_arguments, reason = "they are those of the C call")]
+pub fn open_run(
+    mode: u32,
+    rounds: u32,
+    key: &[u8],
+    nonce: &[u8],
+    header: &[u8],
+    parcel: &[u8],
+    output: &mut [u8],
+    words: &mut [u64],
+) -> Result<usize, Refusal> {
+    let inputs = [key, nonce, header, parcel];
+    answer_from_run(RunCall::Open, mode, rounds, inputs, output, words)
 }
 
 /// Writes the block reached from `start` by the step bytes `steps` to the first
@@ -232,7 +310,7 @@ enum Call {
     Convert,
 }
 
-fn run(
+fn answer(
     call: Call,
     mode: u32,
     rounds: u32,
@@ -260,6 +338,45 @@ fn run(
             input.len(),
             output.as_mut_ptr(),
             output.len(),
+        )
+    })
+}
+
+/// The calls that are lent words besides.
+enum RunCall {
+    Seal,
+    Open,
+}
+
+fn answer_from_run(
+    call: RunCall,
+    mode: u32,
+    rounds: u32,
+    [key, nonce, header, input]: [&[u8]; 4],
+    output: &mut [u8],
+    words: &mut [u64],
+) -> Result<usize, Refusal> {
+    let function = match call {
+        RunCall::Seal => ffi::calmbaize_seal_run,
+        RunCall::Open => ffi::calmbaize_open_run,
+    };
+    // SAFETY: each pointer is valid for its length, and a mutable borrow overlaps no other.
+    value(unsafe {
+        function(
+            mode,
+            rounds,
+            key.as_ptr(),
+            key.len(),
+            nonce.as_ptr(),
+            nonce.len(),
+            header.as_ptr(),
+            header.len(),
+            input.as_ptr(),
+            input.len(),
+            output.as_mut_ptr(),
+            output.len(),
+            words.as_mut_ptr(),
+            words.len(),
         )
     })
 }

@@ -1,6 +1,7 @@
 //! The five commands, each over the library's call of that name.
 
 use crate::convert;
+use crate::engine::{Engine, Words};
 use crate::files::{self, Access};
 use crate::help;
 use crate::options::{needed, Options};
@@ -17,9 +18,10 @@ pub struct Command {
     pub run: fn(&Options) -> Result<(), Failure>,
 }
 
-/// The first is for open alone.
-const OPENING: [&str; 12] = [
+/// The first is for open alone, and the second for open and seal.
+const OPENING: [&str; 13] = [
     "--old-start",
+    "--engine",
     "--key",
     "--key-file",
     "--nonce",
@@ -34,6 +36,7 @@ const OPENING: [&str; 12] = [
 ];
 
 const SEALING: &[&str] = OPENING.split_at(1).1;
+const CONVERTING: &[&str] = SEALING.split_at(1).1;
 
 /// A parcel may be seen by anyone. A mask is as secret as the key, since its steps and the
 /// permutation have ways back.
@@ -53,7 +56,7 @@ pub const COMMANDS: [Command; 5] = [
     Command {
         name: "convert",
         help: help::convert,
-        options: SEALING,
+        options: CONVERTING,
         run: convert::run,
     },
     Command {
@@ -136,26 +139,33 @@ impl Settings {
 }
 
 fn seal(options: &Options) -> Result<Vec<u8>, Failure> {
+    let engine = Engine::new(options)?;
     let with = Settings::new(options)?;
     let message = input(options, MAX_MESSAGE_LEN)?;
-    let header = Header(&with.header);
-    let parcel = written(message.len() + TAG_LEN, |output| {
-        with.aead.seal(&with.nonce, header, &message, output)
+    let (aead, nonce, header) = (&with.aead, &with.nonce, Header(&with.header));
+    let parcel = written(message.len() + TAG_LEN, |output| match engine {
+        Engine::Step => aead.seal(nonce, header, &message, output),
+        Engine::Run => {
+            let mut words = Words::new(header, message.len());
+            aead.seal_run(nonce, header, &message, output, &mut words.0)
+        }
     });
     Ok(parcel?)
 }
 
 fn open(options: &Options) -> Result<Vec<u8>, Failure> {
+    let engine = Engine::new(options)?;
     let with = Settings::new(options)?;
     let parcel = input(options, MAX_PARCEL_LEN)?;
-    let header = Header(&with.header);
-    let open = if options.has("--old-start") {
-        Aead::open_old
-    } else {
-        Aead::open
-    };
-    let message = written(parcel.len().saturating_sub(TAG_LEN), |output| {
-        open(&with.aead, &with.nonce, header, &parcel, output)
+    let (aead, nonce, header) = (&with.aead, &with.nonce, Header(&with.header));
+    let len = parcel.len().saturating_sub(TAG_LEN);
+    let message = written(len, |output| match engine {
+        Engine::Step if options.has("--old-start") => aead.open_old(nonce, header, &parcel, output),
+        Engine::Step => aead.open(nonce, header, &parcel, output),
+        Engine::Run => {
+            let mut words = Words::new(header, len);
+            aead.open_run(nonce, header, &parcel, output, &mut words.0)
+        }
     });
     Ok(message?)
 }

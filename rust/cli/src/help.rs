@@ -38,6 +38,14 @@ const HEX_AND_HELP: &str = "  -x, --hex                write hexadecimal and a l
   -h, --help               this text
 ";
 
+/// What seal and open share beside the settings.
+const ENGINE: &str =
+    "      --engine step|run    step makes a mask from the one before; run makes all
+                           first, in memory that is overwritten afterwards, and
+                           takes four blocks in a turn where it can. The bytes
+                           written are the same [step]
+";
+
 const OWNER: &str = "\
 What is written is secret: a file of it can be read by its owner alone, whatever
 permissions it had before. Standard output, a pipe or a device is left as it is.
@@ -76,7 +84,7 @@ ciphertext and then a tag of 32 bytes.
 usage: calmbaize seal OPTIONS
 
 options:
-{settings}  -i, --input FILE         message [standard input]
+{settings}{ENGINE}  -i, --input FILE         message [standard input]
   -o, --output FILE        parcel [standard output]
 {HEX_AND_HELP}"
     )
@@ -92,7 +100,8 @@ start too: nothing seals under the old one any more.
 usage: calmbaize open OPTIONS
 
 options:
-{settings}      --old-start          the parcel was sealed by a version before 0.4.0
+{settings}{ENGINE}      --old-start          the parcel was sealed by a version before 0.4.0; step
+                           alone opens such a one
   -i, --input FILE         parcel [standard input]
   -o, --output FILE        message [standard output]
 {HEX_AND_HELP}

@@ -2,6 +2,7 @@
 
 mod commands;
 mod convert;
+mod engine;
 mod files;
 mod help;
 mod options;

@@ -2,7 +2,7 @@
 
 use crate::prng::Prng;
 use reference::store::Sale;
-use reference::{seal_under, Start};
+use reference::{run_len, seal_under, Start};
 use std::fmt;
 
 /// An entry point with the arguments that are no buffers.
@@ -18,6 +18,10 @@ pub enum Entry {
     },
     /// Buffers: key, nonce, header, parcel.
     Convert { mode: u32, rounds: u32 },
+    /// Buffers: key, nonce, header, message. The words are lent besides.
+    SealRun { mode: u32, rounds: u32 },
+    /// Buffers: key, nonce, header, parcel. The words are lent besides.
+    OpenRun { mode: u32, rounds: u32 },
     /// Buffers: start, steps.
     Walk,
     /// Buffer: start.
@@ -52,6 +56,8 @@ impl Entry {
                 start: Start::Old, ..
             } => "open_old",
             Self::Convert { .. } => "convert",
+            Self::SealRun { .. } => "seal_run",
+            Self::OpenRun { .. } => "open_run",
             Self::Walk => "walk",
             Self::Jump { .. } => "jump",
             Self::Format => "format",
@@ -67,29 +73,40 @@ impl Entry {
         match self {
             Self::Seal { mode, rounds }
             | Self::Open { mode, rounds, .. }
-            | Self::Convert { mode, rounds } => [mode, rounds],
+            | Self::Convert { mode, rounds }
+            | Self::SealRun { mode, rounds }
+            | Self::OpenRun { mode, rounds } => [mode, rounds],
             _ => panic!("{self:?} has no mode"),
         }
     }
 }
 
-/// A call: an entry point, its input buffers and what its output holds before.
+/// A call: an entry point, its input buffers and what its output and its words hold before.
 #[derive(Clone)]
 pub struct Call {
     pub entry: Entry,
     pub inputs: Vec<Vec<u8>>,
     pub output: Vec<u8>,
+    /// None but where the entry point takes them.
+    pub words: Vec<u64>,
 }
 
 impl Call {
+    /// A call that lends no words.
+    pub fn new(entry: Entry, inputs: Vec<Vec<u8>>, output: Vec<u8>) -> Self {
+        Self {
+            entry,
+            inputs,
+            output,
+            words: Vec::new(),
+        }
+    }
+
     /// A seal call of random buffers. Its output is as long as the parcel.
     pub fn seal(prng: &mut Prng, mode: u32, rounds: u32, header_len: usize, len: usize) -> Self {
         let buffers = [32, 16, header_len, len].map(|len| prng.bytes(len));
-        Self {
-            entry: Entry::Seal { mode, rounds },
-            inputs: buffers.into(),
-            output: pattern(len + 32),
-        }
+        let entry = Entry::Seal { mode, rounds };
+        Self::new(entry, buffers.into(), pattern(len + 32))
     }
 
     /// This call turned into one that opens `parcel` under a start and the same settings.
@@ -112,38 +129,61 @@ impl Call {
     /// Another entry point with the same key, nonce and header.
     fn on_parcel(mut self, entry: Entry, parcel: Vec<u8>, output_len: usize) -> Self {
         self.inputs[3] = parcel;
-        Self {
-            entry,
-            inputs: self.inputs,
-            output: pattern(output_len),
-        }
+        Self::new(entry, self.inputs, pattern(output_len))
+    }
+
+    /// This call of seal or open turned into the one that has its masks from a run in `words`.
+    pub fn into_run(mut self, words: Vec<u64>) -> Self {
+        self.entry = match self.entry {
+            Entry::Seal { mode, rounds } => Entry::SealRun { mode, rounds },
+            Entry::Open {
+                start: Start::New,
+                mode,
+                rounds,
+            } => Entry::OpenRun { mode, rounds },
+            _ => panic!("{self} has no run"),
+        };
+        self.words = words;
+        self
+    }
+
+    /// The call of seal or open that a call with a run has to equal.
+    pub fn stepping(&self) -> Self {
+        let entry = match self.entry {
+            Entry::SealRun { mode, rounds } => Entry::Seal { mode, rounds },
+            Entry::OpenRun { mode, rounds } => Entry::Open {
+                start: Start::New,
+                mode,
+                rounds,
+            },
+            _ => panic!("{self} has no run"),
+        };
+        Self::new(entry, self.inputs.clone(), self.output.clone())
+    }
+
+    /// Words of the run that this call needs, or would need with its masks from a run.
+    pub fn run_len(&self) -> usize {
+        let tag = match self.entry {
+            Entry::Seal { .. } | Entry::SealRun { .. } => 0,
+            _ => 32,
+        };
+        let message_len = self.inputs[3].len().saturating_sub(tag);
+        run_len(self.inputs[2].len(), message_len)
     }
 
     /// A walk call.
     pub fn walk(start: Vec<u8>, steps: Vec<u8>, output_len: usize) -> Self {
-        Self {
-            entry: Entry::Walk,
-            inputs: vec![start, steps],
-            output: pattern(output_len),
-        }
+        Self::new(Entry::Walk, vec![start, steps], pattern(output_len))
     }
 
     /// A jump call.
     pub fn jump(start: Vec<u8>, counts: [i32; 3], output_len: usize) -> Self {
-        Self {
-            entry: Entry::Jump { counts },
-            inputs: vec![start],
-            output: pattern(output_len),
-        }
+        Self::new(Entry::Jump { counts }, vec![start], pattern(output_len))
     }
 
     /// A format call.
     pub fn format(store: &[u8]) -> Self {
-        Self {
-            entry: Entry::Format,
-            inputs: Vec::new(),
-            output: store.to_vec(),
-        }
+        Self::new(Entry::Format, Vec::new(), store.to_vec())
     }
 
     /// A take call.
@@ -156,38 +196,26 @@ impl Call {
             means: sold.means,
         };
         let buffers = [key, &sold.nonce_tail, &sold.clock];
-        Self {
-            entry,
-            inputs: buffers.map(<[u8]>::to_vec).into(),
-            output: store.to_vec(),
-        }
+        let inputs = buffers.map(<[u8]>::to_vec).into();
+        Self::new(entry, inputs, store.to_vec())
     }
 
     /// A cancel call.
     pub fn cancel(key: &[u8], store: &[u8], machine: u32, sale: u32) -> Self {
-        Self {
-            entry: Entry::Cancel { machine, sale },
-            inputs: vec![key.to_vec()],
-            output: store.to_vec(),
-        }
+        let entry = Entry::Cancel { machine, sale };
+        Self::new(entry, vec![key.to_vec()], store.to_vec())
     }
 
     /// A total call.
     pub fn total(key: &[u8], store: &[u8]) -> Self {
-        Self {
-            entry: Entry::Total,
-            inputs: vec![key.to_vec(), store.to_vec()],
-            output: pattern(8),
-        }
+        let inputs = vec![key.to_vec(), store.to_vec()];
+        Self::new(Entry::Total, inputs, pattern(8))
     }
 
     /// A read call.
     pub fn read(store: &[u8], machine: u32, sale: u32) -> Self {
-        Self {
-            entry: Entry::Read { machine, sale },
-            inputs: vec![store.to_vec()],
-            output: Vec::new(),
-        }
+        let entry = Entry::Read { machine, sale };
+        Self::new(entry, vec![store.to_vec()], Vec::new())
     }
 
     /// The input buffers as they are lent.
@@ -222,8 +250,8 @@ impl Call {
     pub fn written(&self) -> usize {
         let len = self.inputs[3].len();
         match self.entry {
-            Entry::Seal { .. } => len + 32,
-            Entry::Open { .. } => len - 32,
+            Entry::Seal { .. } | Entry::SealRun { .. } => len + 32,
+            Entry::Open { .. } | Entry::OpenRun { .. } => len - 32,
             Entry::Convert { .. } => len,
             _ => panic!("{self} has no message"),
         }
@@ -245,9 +273,10 @@ impl fmt::Display for Call {
         let lengths: Vec<usize> = self.inputs.iter().map(Vec::len).collect();
         write!(
             f,
-            "{:?}, inputs of {lengths:?}, output of {}",
+            "{:?}, inputs of {lengths:?}, output of {} and {} words",
             self.entry,
-            self.output.len()
+            self.output.len(),
+            self.words.len()
         )
     }
 }

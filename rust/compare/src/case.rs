@@ -98,6 +98,15 @@ impl<'a> Case<'a> {
         Ok(Lent { before, now })
     }
 
+    /// The call's next field, a buffer of words that the call writes, given as their bytes.
+    pub fn lent_words(&mut self) -> Result<Lent, String> {
+        let lent = self.lent()?;
+        if lent.now.len() % 8 == 0 {
+            return Ok(lent);
+        }
+        Err(format!("{} bytes are no words", lent.now.len()))
+    }
+
     /// Holds a call's answer against the next two fields of the answer line.
     pub fn answers(&mut self, answer: u64) -> Result<(), String> {
         let wanted: (u32, u32) = (number(self.answer_field()?)?, number(self.answer_field()?)?);
@@ -190,6 +199,31 @@ mod tests {
         let at = "from byte 1 of 3 wanted 0605, got 0505";
         assert_eq!(differs("7 1 050605"), at);
         assert_eq!(differs("0 1 050605"), format!("wanted 0 1, got 7 1; {at}"));
+    }
+
+    /// Replays `words`, a call that adds one to each word.
+    fn counted(fields: &str, answer: &str) -> Result<(), String> {
+        let mut case = Case::new(fields, answer)?;
+        let mut lent = case.lent_words()?;
+        lent.now.words().iter_mut().for_each(|word| *word += 1);
+        case.holds(&lent)?;
+        case.finish()
+    }
+
+    #[test]
+    fn words_are_their_bytes() {
+        for edge in [0, 1, 2] {
+            let agrees = |fields: &str, answer| counted(&format!("{edge} {fields}"), answer);
+            let two = (
+                "ff00000000000000fffffffeffffffff",
+                "0001000000000000000000ffffffffff",
+            );
+            assert_eq!(agrees(two.0, two.1), Ok(()));
+            assert_eq!(agrees("*16:00", "@0:01@8:01"), Ok(()));
+            assert_eq!(agrees("-", "-"), Ok(()));
+        }
+        let odd = counted("0 *12:00", "=");
+        assert_eq!(odd, Err("12 bytes are no words".into()));
     }
 
     /// Replays `variable input`, a call that adds the length of the input, which has to be 2.

@@ -4,6 +4,7 @@ use crate::call::{pattern, Call, Entry};
 use crate::library::{expected, refusal, Library};
 use crate::prng::Prng;
 use crate::report::{Check, Tally};
+use crate::runs;
 use reference::{settings, Start, MRO, OPP, ROUNDS};
 use std::collections::BTreeSet;
 
@@ -30,7 +31,7 @@ const KINDS: [(&str, Damage); 16] = [
     (OTHER_START, change_start),
 ];
 
-/// A conversion has no start that could be another.
+/// Only open and open_old have a start that could be another.
 const OTHER_START: &str = "the other start";
 
 /// Which entry points were damaged in which ways.
@@ -58,8 +59,8 @@ pub fn run(library: &Library, seed: u64) -> Tally {
         every_tag_bit(&mut prng, &mut check, mode, rounds);
     }
     for (kind, _) in KINDS {
-        for name in ["open", "open_old", "convert"] {
-            let possible = (name, kind) != ("convert", OTHER_START);
+        for name in ["open", "open_old", "open_run", "convert"] {
+            let possible = kind != OTHER_START || matches!(name, "open" | "open_old");
             check.record(done.contains(&(name, kind)) == possible, || {
                 format!("{name}, {kind}: not done once")
             });
@@ -70,7 +71,7 @@ pub fn run(library: &Library, seed: u64) -> Tally {
 
 /// Each kind of damage that the parcels of `seal` have room for.
 fn all_kinds(prng: &mut Prng, check: &mut Check, seal: &Call, done: &mut Done) {
-    for (good, answer, wanted) in good_calls(check, seal) {
+    for (good, answer, wanted) in good_calls(prng, check, seal) {
         let output = check.answers(&good, answer);
         check.record(output.starts_with(&wanted), || {
             format!("{good}: the output is another")
@@ -88,7 +89,7 @@ fn all_kinds(prng: &mut Prng, check: &mut Check, seal: &Call, done: &mut Done) {
 /// Each of the 256 bits of a tag counts.
 fn every_tag_bit(prng: &mut Prng, check: &mut Check, mode: u32, rounds: u32) {
     let seal = Call::seal(prng, mode, rounds, 9, 150);
-    for (good, ..) in good_calls(check, &seal) {
+    for (good, ..) in good_calls(prng, check, &seal) {
         for bit in 0..256 {
             let mut call = good.clone();
             call.inputs[3][150 + bit / 8] ^= 1 << (bit % 8);
@@ -99,15 +100,19 @@ fn every_tag_bit(prng: &mut Prng, check: &mut Check, mode: u32, rounds: u32) {
 
 /// Calls on the parcel that the library seals in `seal` and on that of the old start, each with its
 /// answer and with what its output then begins with.
-fn good_calls(check: &mut Check, seal: &Call) -> [(Call, u64, Vec<u8>); 4] {
+fn good_calls(prng: &mut Prng, check: &mut Check, seal: &Call) -> [(Call, u64, Vec<u8>); 5] {
     let message = seal.inputs[3].clone();
     let (len, room) = (message.len(), message.len() + 232);
     let new = check.answers(seal, len as u64 + 32);
     let old = seal.parcel(Start::Old);
     let open = |start, parcel: &[u8]| seal.clone().into_open(start, parcel.to_vec(), room);
     let convert = |parcel: &[u8]| seal.clone().into_convert(parcel.to_vec(), room);
+    // Enough for the header or the message with a block more.
+    let words = prng.words(seal.run_len() + 1);
+    let run = open(Start::New, &new).into_run(words);
     [
         (open(Start::New, &new), len as u64, message.clone()),
+        (run, len as u64, message.clone()),
         (open(Start::Old, &old), len as u64, message),
         (convert(&new), refusal(17, 0), pattern(room)),
         (convert(&old), len as u64 + 32, new),
@@ -116,9 +121,12 @@ fn good_calls(check: &mut Check, seal: &Call) -> [(Call, u64, Vec<u8>); 4] {
 
 /// Counts whether a call is refused with 9 and leaves its output as it has to.
 fn does_not_open(check: &mut Check, call: &Call, kind: &str) {
-    let (answer, output) = check.compare(call);
+    let (answer, output) = match call.entry {
+        Entry::OpenRun { .. } => runs::compare(check, call),
+        _ => check.compare(call),
+    };
     let mut wanted = call.output.clone();
-    if let Entry::Open { .. } = call.entry {
+    if let Entry::Open { .. } | Entry::OpenRun { .. } = call.entry {
         wanted[..ciphertext_len(call)].fill(0);
     }
     let passed = answer == refusal(9, 0) && output == wanted;
@@ -154,7 +162,7 @@ fn other_tag(_: &mut Prng, call: &mut Call) -> bool {
     let len = ciphertext_len(call);
     for start in [Start::New, Start::Old] {
         let mut open = call.clone().into_open(start, call.inputs[3].clone(), len);
-        let answer = expected(open.entry, &call.slices(), &mut open.output);
+        let answer = expected(open.entry, &call.slices(), &mut open.output, &mut []);
         if len > 0 && answer == len as u64 {
             open.inputs[3] = std::mem::take(&mut open.output);
             let tag = open.parcel(other(start)).split_off(len);

@@ -1,10 +1,11 @@
 //! All lengths around the edges of blocks and of the limits.
 
-use crate::call::{pattern, Call};
+use crate::call::{pattern, Call, Entry};
 use crate::conversion;
 use crate::library::Library;
 use crate::prng::Prng;
 use crate::report::{Check, Tally};
+use crate::runs;
 use reference::{settings, Start, MAX_COUNT, MAX_HEADER_LEN, MAX_MESSAGE_LEN, MAX_STEPS};
 
 const HEADERS: [usize; 10] = [0, 1, 127, 128, 129, 256, 257, 4095, 4096, 4097];
@@ -12,8 +13,8 @@ const LONG: [usize; 12] = [
     4095, 4096, 4097, 65_407, 65_408, 65_409, 65_535, 65_536, 65_537, 65_568, 65_569, 131_072,
 ];
 
-/// Seals, opens what was sealed and converts it, over edges of headers, messages and outputs; then
-/// the lists and counts of walk and jump.
+/// Seals, opens what was sealed and converts it, over edges of headers, messages and outputs, by
+/// steps and by a run; then the lists and counts of walk and jump.
 pub fn run(library: &Library, seed: u64) -> Tally {
     let mut prng = Prng::new(seed);
     let mut check = Check::new(library);
@@ -45,10 +46,10 @@ fn seal_and_open(prng: &mut Prng, check: &mut Check, mut seal: Call) {
     let allowed = seal.inputs[2].len() <= MAX_HEADER_LEN && len <= MAX_MESSAGE_LEN;
     for output_len in [len + 31, len + 33, len + 100] {
         seal.output = pattern(output_len);
-        check.compare(&seal);
+        compare(prng, check, &seal);
     }
     seal.output = pattern(len + 32);
-    let (sealed, parcel) = check.compare(&seal);
+    let (sealed, parcel) = compare(prng, check, &seal);
     if allowed {
         check.record(sealed == len as u64 + 32, || format!("{seal}: refused"));
     }
@@ -88,17 +89,30 @@ fn opens(prng: &mut Prng, check: &mut Check, mut open: Call, allowed: bool, mess
     let len = message.len();
     for output_len in [len.saturating_sub(1), len + 1, len + 100] {
         open.output = pattern(output_len);
-        check.compare(&open);
+        compare(prng, check, &open);
     }
     open.output = pattern(len);
-    let (opened, output) = check.compare(&open);
+    let (opened, output) = compare(prng, check, &open);
     if allowed {
         let back = opened == len as u64 && output == message;
         check.record(back, || format!("{open}: the message does not come back"));
     }
     let at = prng.below(len + 32);
     open.inputs[3][at] ^= 4;
-    check.compare(&open);
+    compare(prng, check, &open);
+}
+
+/// Compares a call, and one with a run in just enough words where there is such a call.
+fn compare(prng: &mut Prng, check: &mut Check, call: &Call) -> (u64, Vec<u8>) {
+    match call.entry {
+        Entry::Open {
+            start: Start::Old, ..
+        } => check.compare(call),
+        _ => {
+            let words = prng.words(call.run_len());
+            runs::compare(check, &call.clone().into_run(words))
+        }
+    }
 }
 
 /// Parcels of 0 to 33 bytes that nobody sealed.
@@ -107,7 +121,8 @@ fn short_parcels(prng: &mut Prng, check: &mut Check, mode: u32, rounds: u32) {
         let seal = Call::seal(prng, mode, rounds, 3, len);
         let parcel = seal.inputs[3].clone();
         for start in [Start::New, Start::Old] {
-            check.compare(&seal.clone().into_open(start, parcel.clone(), 40));
+            let open = seal.clone().into_open(start, parcel.clone(), 40);
+            compare(prng, check, &open);
         }
         conversion::compare(check, &seal.into_convert(parcel, 40));
     }

@@ -50,6 +50,42 @@ const OPEN_SHORT: [Ground; 6] = [
 /// The ground of convert alone, which excludes 9.
 const DONE: [Ground; 1] = [(17, done_already)];
 
+/// The grounds of seal_run in the order of its checks.
+const SEAL_RUN: [Ground; 8] = [
+    (1, bad_mode),
+    (2, bad_rounds),
+    (3, bad_key),
+    (4, bad_nonce),
+    (5, bad_header),
+    (6, long_input),
+    (7, short_output),
+    (7, few_words),
+];
+
+/// The grounds of open_run, but for 8, which excludes 6.
+const OPEN_RUN: [Ground; 9] = [
+    (1, bad_mode),
+    (2, bad_rounds),
+    (3, bad_key),
+    (4, bad_nonce),
+    (5, bad_header),
+    (6, long_parcel),
+    (7, short_output),
+    (7, few_words),
+    (9, bad_tag),
+];
+
+/// The same with 8. There may be too few words for the header.
+const OPEN_RUN_SHORT: [Ground; 7] = [
+    (1, bad_mode),
+    (2, bad_rounds),
+    (3, bad_key),
+    (4, bad_nonce),
+    (5, bad_header),
+    (8, short_parcel),
+    (7, few_words),
+];
+
 const WALK: [Ground; 4] = [
     (10, bad_start),
     (13, long_list),
@@ -60,11 +96,13 @@ const WALK: [Ground; 4] = [
 const JUMP: [Ground; 3] = [(10, bad_start), (11, bad_count), (7, no_output)];
 
 /// The entry points and all their grounds.
-pub const ENTRIES: [(&str, Grounds); 6] = [
+pub const ENTRIES: [(&str, Grounds); 8] = [
     ("seal", &[&SEAL]),
     ("open", &[&OPEN, &OPEN_SHORT]),
     ("open_old", &[&OPEN, &OPEN_SHORT]),
     ("convert", &[&OPEN, &OPEN_SHORT, &DONE]),
+    ("seal_run", &[&SEAL_RUN]),
+    ("open_run", &[&OPEN_RUN, &OPEN_RUN_SHORT]),
     ("walk", &[&WALK]),
     ("jump", &[&JUMP]),
 ];
@@ -113,6 +151,7 @@ pub fn run(library: &Library, seed: u64) -> Tally {
         let seal = Call::seal(&mut prng, mode, rounds, 40, 70);
         all_sets(&mut check, &SEAL, &seal, 102);
         parcels(&mut check, &seal);
+        runs(&mut prng, &mut check, seal);
     }
     round_counts(&mut prng, &mut check);
     let walk = Call::walk(prng.bytes(128), vec![1, 5, 6], 128);
@@ -159,6 +198,19 @@ fn stores(prng: &mut Prng, check: &mut Check) {
     all_sets(check, &READ, &read, (CELL_LEN + BODY_AT) as u64);
 }
 
+/// The grounds of the calls that take words, with a header that has more whole blocks than the
+/// message.
+fn runs(prng: &mut Prng, check: &mut Check, mut seal: Call) {
+    seal.inputs[2] = prng.bytes(300);
+    let words = prng.words(seal.run_len());
+    let parcel = seal.parcel(Start::New);
+    let open = seal.clone().into_open(Start::New, parcel, 70);
+    let open = open.into_run(words.clone());
+    all_sets(check, &SEAL_RUN, &seal.into_run(words), 102);
+    all_sets(check, &OPEN_RUN, &open, 70);
+    all_sets(check, &OPEN_RUN_SHORT, &open, 70);
+}
+
 /// The library allows the counts that the second implementation does and no other, nor one that
 /// is cut to an allowed one.
 fn round_counts(prng: &mut Prng, check: &mut Check) {
@@ -168,7 +220,10 @@ fn round_counts(prng: &mut Prng, check: &mut Check) {
         for mode in [OPP, MRO] {
             let seal = Call::seal(prng, mode, rounds, 3, 5);
             let (_, parcel) = check.compare(&seal);
-            check.compare(&seal.clone().into_open(Start::New, parcel, 5));
+            check.compare(&seal.clone().into_run(prng.words(21)));
+            let open = seal.clone().into_open(Start::New, parcel, 5);
+            check.compare(&open);
+            check.compare(&open.into_run(prng.words(21)));
             let parcel = seal.parcel(Start::Old);
             check.compare(&seal.clone().into_open(Start::Old, parcel.clone(), 5));
             check.compare(&seal.into_convert(parcel, 37));
@@ -238,6 +293,11 @@ fn short_output(call: &mut Call) {
     call.output = pattern(call.written() - 1);
 }
 
+/// One word too few, after header and input have their lengths.
+fn few_words(call: &mut Call) {
+    call.words.truncate(call.run_len() - 1);
+}
+
 fn bad_tag(call: &mut Call) {
     if let Some(byte) = call.inputs[3].last_mut() {
         *byte ^= 0x80;
@@ -247,7 +307,7 @@ fn bad_tag(call: &mut Call) {
 /// The parcel of a good conversion becomes what it is converted to.
 fn done_already(call: &mut Call) {
     let mut parcel = pattern(call.written());
-    expected(call.entry, &call.slices(), &mut parcel);
+    expected(call.entry, &call.slices(), &mut parcel, &mut []);
     call.inputs[3] = parcel;
 }
 

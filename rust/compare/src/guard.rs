@@ -29,7 +29,8 @@ pub fn run(library: &str) -> Tally {
 }
 
 /// The child: makes every call at both edges. Of each entry point some have to succeed, since a
-/// refused call need not touch its buffers. Some conversions have to fail by what they have read.
+/// refused call need not touch its buffers. Some of convert and of open_run have to fail by what
+/// they have read.
 pub fn child(library: &Library) {
     let mut met = BTreeSet::new();
     for call in calls() {
@@ -44,7 +45,8 @@ pub fn child(library: &Library) {
     }
     let entries = ENTRIES.iter().chain(&STORE_ENTRIES);
     let succeeded = entries.map(|(name, _)| (*name, 0));
-    for (name, number) in succeeded.chain([("convert", 9), ("convert", 17)]) {
+    let refused = [("convert", 9), ("convert", 17), ("open_run", 9)];
+    for (name, number) in succeeded.chain(refused) {
         child::call(name);
         let none = || format!("no call met refusal {number}, 0 for none");
         child::outcome(met.get(&(name, number)).map(drop).ok_or_else(none));
@@ -52,16 +54,21 @@ pub fn child(library: &Library) {
     child::done();
 }
 
-/// The answer, where it and the output are the second implementation's.
+/// The answer, where it, the output and the words are the second implementation's.
 fn agrees(library: &Library, call: &Call, edge: Edge) -> Result<u64, String> {
     let place = |bytes: &Vec<u8>| Input::new(bytes, edge);
     let inputs: Vec<Input> = call.inputs.iter().map(place).collect();
     let inputs: Vec<&[u8]> = inputs.iter().map(|input| &**input).collect();
     let mut wanted = call.output.clone();
     let mut output = Output::new(&wanted, edge);
-    let answer = library.call(call.entry, &inputs, &mut output, false);
-    let wanted_answer = expected(call.entry, &inputs, &mut wanted);
-    if (answer, &output[..]) == (wanted_answer, &wanted) {
+    let mut wanted_words = call.words.clone();
+    let bytes = wanted_words.iter().flat_map(|word| word.to_le_bytes());
+    let mut words = Output::new(&bytes.collect::<Vec<u8>>(), edge);
+    let words = words.words();
+    let answer = library.call_with_words(call.entry, &inputs, &mut output, words, false);
+    let wanted_answer = expected(call.entry, &inputs, &mut wanted, &mut wanted_words);
+    let same = output[..] == wanted && words[..] == wanted_words;
+    if same && answer == wanted_answer {
         Ok(answer)
     } else {
         Err(format!("{answer:#x}, expected {wanted_answer:#x}"))
@@ -77,7 +84,7 @@ fn calls() -> Vec<Call> {
         ] {
             for header_len in [0, 1, 127, 128, 129, 4096, 4097] {
                 let seal = Call::seal(&mut prng, mode, rounds, header_len, len);
-                sealing(&mut calls, seal);
+                sealing(&mut prng, &mut calls, seal);
             }
         }
     }
@@ -90,19 +97,38 @@ fn calls() -> Vec<Call> {
 }
 
 /// A seal call, and under each start an open and a conversion of the parcel; each of them also with
-/// too short an output, and the last two of a damaged parcel.
-fn sealing(calls: &mut Vec<Call>, seal: Call) {
+/// too short an output, and the last two of a damaged parcel. Seal and open by a run too.
+fn sealing(prng: &mut Prng, calls: &mut Vec<Call>, seal: Call) {
     let len = seal.inputs[3].len();
     short_output(calls, seal.clone());
+    runs(prng, calls, &seal);
     for start in [Start::New, Start::Old] {
         let parcel = seal.parcel(start);
         let open = seal.clone().into_open(start, parcel.clone(), len);
         let convert = seal.clone().into_convert(parcel, len + 32);
+        if start == Start::New {
+            runs(prng, calls, &open);
+        }
         for mut call in [open, convert] {
             short_output(calls, call.clone());
             call.inputs[3][len / 2] ^= 1;
             calls.push(call);
         }
+    }
+}
+
+/// A seal or open call by a run: no words, one too few, just enough and more; then, in just enough,
+/// with too short an output and of a damaged input.
+fn runs(prng: &mut Prng, calls: &mut Vec<Call>, call: &Call) {
+    let len = call.run_len();
+    for count in [0, len - 1, len + 3] {
+        calls.push(call.clone().into_run(prng.words(count)));
+    }
+    let mut enough = call.clone().into_run(prng.words(len));
+    short_output(calls, enough.clone());
+    if let Some(byte) = enough.inputs[3].last_mut() {
+        *byte ^= 1;
+        calls.push(enough);
     }
 }
 

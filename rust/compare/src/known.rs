@@ -13,6 +13,7 @@ pub fn run(library: &Library) -> Tally {
     conversions(&mut check);
     sealing_limits(&mut check);
     parcel_limits(&mut check);
+    run_limits(&mut check);
     mask_limits(&mut check);
     check.tally
 }
@@ -175,6 +176,58 @@ fn parcel_limits(check: &mut Check) {
         let entry = Entry::Convert { mode, rounds };
         answers(check, name, entry, &inputs, &mut pattern(output), wanted);
     }
+}
+
+/// Whole blocks of a header or a message, and the words that their run has.
+fn run_limits(check: &mut Check) {
+    for (header, message, needed) in [
+        (0, 0, 21),
+        (127, 127, 21),
+        (128, 127, 22),
+        (127, 128, 22),
+        (4096, 0, 53),
+        (4096, 4224, 54),
+        (4096, 65_535, 532),
+        (0, 65_536, 533),
+    ] {
+        let rounds = ROUNDS[0];
+        for mode in [OPP, MRO] {
+            let mut buffers = [32, 16, header, message].map(|len| vec![7; len]);
+            let entry = Entry::SealRun { mode, rounds };
+            buffers[3] = run_lengths(check, entry, &buffers, needed, message + 32);
+            let entry = Entry::OpenRun { mode, rounds };
+            let opened = run_lengths(check, entry, &buffers, needed, message);
+            check.record(opened == vec![7; message], || format!("{message} bytes"));
+        }
+    }
+}
+
+/// In one word too few a call is refused with 7 and changes none. In enough it answers `done`, leaves
+/// a run in the first and changes none behind. Returns the output, of `done` bytes.
+fn run_lengths(
+    check: &mut Check,
+    entry: Entry,
+    buffers: &[Vec<u8>; 4],
+    needed: usize,
+    done: usize,
+) -> Vec<u8> {
+    let inputs = buffers.each_ref().map(Vec::as_slice);
+    let mut output = pattern(done);
+    for (lent, written, wanted) in [
+        (needed - 1, 0, refusal(7, 0)),
+        (needed, needed, done as u64),
+        (needed + 1, needed, done as u64),
+    ] {
+        let before: Vec<u64> = (0..lent as u64).collect();
+        let mut words = before.clone();
+        let library = check.library;
+        let answer = library.call_with_words(entry, &inputs, &mut output, &mut words, false);
+        let (run, rest) = words.split_at(written);
+        let next = |w: &[u64]| w[16] == w[0].rotate_left(53) ^ (w[5] << 13);
+        let passed = answer == wanted && run.windows(17).all(next) && rest == &before[written..];
+        check.record(passed, || format!("{entry:?}, {lent} words: {answer:#x}"));
+    }
+    output
 }
 
 fn mask_limits(check: &mut Check) {

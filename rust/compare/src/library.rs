@@ -1,7 +1,7 @@
 //! Implementations with the C interface, and the second implementation behind the same face.
 
 use crate::call::Entry;
-use baseline::Sealing;
+use baseline::{RunSealing, Sealing};
 use reference::store::{self, Sale, CLOCK_LEN, NONCE_TAIL_LEN};
 use reference::{Refusal, Start};
 
@@ -39,6 +39,8 @@ pub struct Functions {
     open: Sealing,
     open_old: Sealing,
     convert: Sealing,
+    seal_run: RunSealing,
+    open_run: RunSealing,
     walk: Walking,
     jump: Jumping,
     format: Formatting,
@@ -54,6 +56,8 @@ pub const BASELINE: Library = Library::Foreign(Functions {
     open: baseline::baseline_open,
     open_old: baseline::baseline_open_old,
     convert: baseline::baseline_convert,
+    seal_run: baseline::baseline_seal_run,
+    open_run: baseline::baseline_open_run,
     walk: baseline::baseline_walk,
     jump: baseline::baseline_jump,
     format: baseline::baseline_store_format,
@@ -70,6 +74,8 @@ pub const ARCHIVE: Option<Library> = Some(Library::Foreign(Functions {
     open: calmbaize::ffi::calmbaize_open,
     open_old: calmbaize::ffi::calmbaize_open_old,
     convert: calmbaize::ffi::calmbaize_convert,
+    seal_run: calmbaize::ffi::calmbaize_seal_run,
+    open_run: calmbaize::ffi::calmbaize_open_run,
     walk: calmbaize::ffi::calmbaize_walk,
     jump: calmbaize::ffi::calmbaize_jump,
     format: calmbaize::ffi::calmbaize_store_format,
@@ -82,11 +88,27 @@ pub const ARCHIVE: Option<Library> = Some(Library::Foreign(Functions {
 pub const ARCHIVE: Option<Library> = None;
 
 impl Library {
-    /// Makes a call. Where `null` is set, empty buffers are passed as null pointers.
+    /// Makes a call that lends no words. Where `null` is set, empty buffers are passed as null
+    /// pointers.
     pub fn call(&self, entry: Entry, inputs: &[&[u8]], output: &mut [u8], null: bool) -> u64 {
-        match self {
-            Self::Foreign(functions) => functions.call(entry, inputs, output, null),
-            Self::Reference => expected(entry, inputs, output),
+        self.call_with_words(entry, inputs, output, &mut [], null)
+    }
+
+    /// The same with `words` for a call that takes them.
+    pub fn call_with_words(
+        &self,
+        entry: Entry,
+        inputs: &[&[u8]],
+        output: &mut [u8],
+        words: &mut [u64],
+        null: bool,
+    ) -> u64 {
+        match (self, entry) {
+            (Self::Reference, _) => expected(entry, inputs, output, words),
+            (Self::Foreign(functions), Entry::SealRun { .. } | Entry::OpenRun { .. }) => {
+                functions.run_call(entry, inputs, output, words, null)
+            }
+            (Self::Foreign(functions), _) => functions.call(entry, inputs, output, null),
         }
     }
 }
@@ -123,6 +145,31 @@ impl Functions {
                 unsafe { (self.jump)(at(0), len(0), a, b, c, out, out_len) }
             }
             _ => self.store_call(entry, inputs, output, null),
+        }
+    }
+
+    fn run_call(
+        &self,
+        entry: Entry,
+        inputs: &[&[u8]],
+        output: &mut [u8],
+        words: &mut [u64],
+        null: bool,
+    ) -> u64 {
+        let (f, mode, rounds) = match entry {
+            Entry::SealRun { mode, rounds } => (self.seal_run, mode, rounds),
+            Entry::OpenRun { mode, rounds } => (self.open_run, mode, rounds),
+            _ => panic!("{entry:?} takes no words"),
+        };
+        let [key, nonce, header, input] = [0, 1, 2, 3].map(|i| pointer(inputs[i], null));
+        let [k, n, h, i] = [0, 1, 2, 3].map(|i| inputs[i].len());
+        let (out, out_len) = (pointer_mut(output, null), output.len());
+        let (words, count) = (pointer_mut(words, null), words.len());
+        // SAFETY: as in `call`; `words` is borrowed mutably too, and aligned as words are.
+        unsafe {
+            f(
+                mode, rounds, key, k, nonce, n, header, h, input, i, out, out_len, words, count,
+            )
         }
     }
 
@@ -177,7 +224,7 @@ fn pointer(buffer: &[u8], null: bool) -> *const u8 {
 }
 
 /// The same for a buffer that is written.
-fn pointer_mut(buffer: &mut [u8], null: bool) -> *mut u8 {
+fn pointer_mut<T>(buffer: &mut [T], null: bool) -> *mut T {
     if null && buffer.is_empty() {
         std::ptr::null_mut()
     } else {
@@ -186,7 +233,7 @@ fn pointer_mut(buffer: &mut [u8], null: bool) -> *mut u8 {
 }
 
 /// The second implementation's answer in the form of the C interface.
-pub fn expected(entry: Entry, inputs: &[&[u8]], output: &mut [u8]) -> u64 {
+pub fn expected(entry: Entry, inputs: &[&[u8]], output: &mut [u8], words: &mut [u64]) -> u64 {
     let result = match (entry, inputs) {
         (Entry::Seal { mode, rounds }, [key, nonce, header, message]) => {
             reference::seal(mode, rounds, key, nonce, header, message, output)
@@ -204,6 +251,14 @@ pub fn expected(entry: Entry, inputs: &[&[u8]], output: &mut [u8]) -> u64 {
         }
         (Entry::Convert { mode, rounds }, &[key, nonce, header, parcel]) => {
             reference::convert(mode, rounds, [key, nonce, header, parcel], output)
+        }
+        (Entry::SealRun { mode, rounds }, &[key, nonce, header, message]) => {
+            let inputs = [key, nonce, header, message];
+            reference::seal_run(mode, rounds, inputs, output, words)
+        }
+        (Entry::OpenRun { mode, rounds }, &[key, nonce, header, parcel]) => {
+            let inputs = [key, nonce, header, parcel];
+            reference::open_run(mode, rounds, inputs, output, words)
         }
         (Entry::Walk, [start, steps]) => reference::walk(start, steps, output),
         (Entry::Jump { counts }, [start]) => reference::jump(start, counts, output),

@@ -22,6 +22,7 @@ mod prng;
 mod random;
 mod replay;
 mod report;
+mod runs;
 mod stores;
 mod text;
 
@@ -80,6 +81,7 @@ fn check(name: &str, library: &Library, options: &Options) -> Result<Tally, Stri
         "grounds" => grounds::run(library, options.seed),
         "edges" => edges::run(library, options.seed),
         "damage" => damage::run(library, options.seed),
+        "run" => runs::run(library, options.seed),
         "masks" => masks::run(library, options.seed),
         "guard" => guard::run(&options.library),
         "store" => stores::history::run(library, options.seed),

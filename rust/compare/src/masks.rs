@@ -1,14 +1,16 @@
-//! The mask rule and the paper's polynomial, on the library's own walk and jump.
+//! The mask rule, runs of words and the paper's polynomial, on the library's own walk and jump.
 
-use crate::call::Entry;
+use crate::call::{Call, Entry};
 use crate::library::Library;
 use crate::prng::Prng;
 use crate::report::{Check, Tally};
+use reference::settings;
 
 /// The exponents of the polynomial of section 3.6.3 for 1,024 bits.
 const EXPONENTS: [usize; 9] = [1024, 901, 695, 572, 409, 366, 203, 163, 0];
 
-/// Lists in other orders give the same block, and so does the jump by their net counts.
+/// Lists in other orders give the same block, and so does the jump by their net counts. A run has
+/// the blocks that walk reaches.
 pub fn run(library: &Library, seed: u64) -> Tally {
     let mut prng = Prng::new(seed);
     let mut check = Check::new(library);
@@ -28,10 +30,43 @@ pub fn run(library: &Library, seed: u64) -> Tally {
             format!("a list of {len} in another order")
         });
     }
+    for (mode, rounds) in settings() {
+        let seal = Call::seal(&mut prng, mode, rounds, 700, 300);
+        windows(&mut check, &seal);
+    }
     for _ in 0..20 {
         polynomial(&mut check, &prng.bytes(128));
     }
     check.tally
+}
+
+/// The run that `seal` leaves in words: each sixteen are an alpha step further than those before, and
+/// a beta or gamma step from there gives sums of neighbours.
+fn windows(check: &mut Check, seal: &Call) {
+    let library = check.library;
+    let mut run = vec![0; seal.run_len()];
+    let call = seal.clone().into_run(Vec::new());
+    let (inputs, mut output) = (call.slices(), call.output.clone());
+    let answer = library.call_with_words(call.entry, &inputs, &mut output, &mut run, false);
+    check.record(answer == output.len() as u64, || {
+        format!("{call}: {answer:#x}")
+    });
+    for (n, w) in run.windows(18).enumerate() {
+        let from = block_of(|t| w[t]);
+        for (step, to) in [
+            (1, block_of(|t| w[t + 1])),
+            (2, block_of(|t| w[t + 1] ^ w[t])),
+            (3, block_of(|t| w[t + 2] ^ w[t + 1] ^ w[t])),
+        ] {
+            let reached = walk(library, &from, &[step]);
+            check.record(reached == Ok(to), || format!("step {step} from word {n}"));
+        }
+    }
+}
+
+/// The bytes of the block whose word `t` is `word(t)`.
+fn block_of(word: impl Fn(usize) -> u64) -> Vec<u8> {
+    (0..16).flat_map(|t| word(t).to_le_bytes()).collect()
 }
 
 /// Alpha as walk computes it is a root of the paper's polynomial; with two rotations it is not.

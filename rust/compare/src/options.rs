@@ -12,9 +12,10 @@ checks:
   grounds     every set of grounds that hold at once, and every round count
   edges       lengths around the edges of blocks and limits
   damage      parcels damaged in every way
-  masks       orders of steps, jumps, and the paper's polynomial
+  run         seal and open by a run of words, over counts of whole blocks
+  masks       orders of steps, jumps, runs of words, and the paper's polynomial
   guard       every buffer at the edge of a page that can't be touched
-  random      random calls of seal, both opens, convert, walk and jump
+  random      random calls of all but the store
   store       histories of sale stores, held against a ledger too
   store-damage
               stores damaged in every way, and all shapes of small ones
@@ -33,11 +34,12 @@ options:
   --known-only        skip the cases of calls that are not known here, instead of failing";
 
 /// What 'all' stands for.
-const ALL: [&str; 9] = [
+const ALL: [&str; 10] = [
     "known",
     "grounds",
     "edges",
     "damage",
+    "run",
     "masks",
     "guard",
     "random",

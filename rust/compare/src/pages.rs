@@ -47,6 +47,18 @@ impl Output {
         output.copy_from_slice(bytes);
         output
     }
+
+    /// The same buffer as words, of which x86-64 has the low byte first.
+    ///
+    /// # Panics
+    ///
+    /// If its length is not one of words. Then it need not be aligned as words are either.
+    pub fn words(&mut self) -> &mut [u64] {
+        // SAFETY: any eight bytes are a word.
+        let (before, words, after) = unsafe { self.align_to_mut() };
+        assert!(before.is_empty() && after.is_empty(), "a buffer of words");
+        words
+    }
 }
 
 impl Deref for Output {

@@ -1,5 +1,4 @@
-//! Random calls of seal, both opens, convert, walk and jump: long and short, valid, refused and
-//! damaged.
+//! Random calls of all entry points but the store's: long and short, valid, refused and damaged.
 
 use crate::call::{pattern, Call, Entry};
 use crate::conversion;
@@ -9,11 +8,12 @@ use crate::library::Library;
 use crate::met::Met;
 use crate::prng::Prng;
 use crate::report::{Check, Tally};
+use crate::runs;
 use reference::{Start, MRO, OPP, ROUNDS};
 use std::time::Instant;
 
-/// Calls among which every refusal of every entry point is met: each is drawn some fifteen times in
-/// so many, so that one never met is a fault of the drawing or of the library.
+/// Calls among which every refusal of every entry point is met: each is drawn some ten times in so
+/// many, so that one never met is a fault of the drawing or of the library.
 const ENOUGH: u64 = 3000;
 
 /// Compares `calls` random calls.
@@ -26,6 +26,7 @@ pub fn run(library: &Library, seed: u64, calls: u64) -> Tally {
         let call = random_call(&mut prng);
         let (answer, _) = match call.entry {
             Entry::Convert { .. } => conversion::compare(&mut check, &call),
+            Entry::SealRun { .. } | Entry::OpenRun { .. } => runs::compare(&mut check, &call),
             _ => check.compare(&call),
         };
         met.add(&call, answer);
@@ -43,11 +44,13 @@ pub fn run(library: &Library, seed: u64, calls: u64) -> Tally {
 }
 
 fn random_call(prng: &mut Prng) -> Call {
-    match prng.below(10) {
+    match prng.below(14) {
         0..=1 => random_seal(prng),
         2..=5 => random_open(prng),
         6..=7 => random_convert(prng),
-        8 => random_walk(prng),
+        8..=9 => random_seal_run(prng),
+        10..=11 => random_open_run(prng),
+        12 => random_walk(prng),
         _ => random_jump(prng),
     }
 }
@@ -62,29 +65,45 @@ fn random_seal(prng: &mut Prng) -> Call {
         prng.bytes(header),
         prng.bytes(message),
     ];
-    let output_len = output_length(prng, message + 32);
-    Call {
-        entry: Entry::Seal { mode, rounds },
-        inputs,
-        output: pattern(output_len),
-    }
+    let output_len = lent_length(prng, message + 32);
+    Call::new(Entry::Seal { mode, rounds }, inputs, pattern(output_len))
 }
 
 /// A parcel that was sealed, half of the time damaged or opened under other settings.
 fn random_open(prng: &mut Prng) -> Call {
-    let sealing = random_seal(prng);
     let start = prng.pick(&[Start::New, Start::Old]);
-    let parcel = sealing.parcel(start);
-    let output_len = output_length(prng, parcel.len() - 32);
-    let call = sealing.into_open(start, parcel, output_len);
+    let call = sound_open(prng, start);
     half_damaged(prng, call)
+}
+
+fn sound_open(prng: &mut Prng, start: Start) -> Call {
+    let sealing = random_seal(prng);
+    let parcel = sealing.parcel(start);
+    let output_len = lent_length(prng, parcel.len() - 32);
+    sealing.into_open(start, parcel, output_len)
+}
+
+fn random_seal_run(prng: &mut Prng) -> Call {
+    let call = random_seal(prng);
+    with_run(prng, call)
+}
+
+fn random_open_run(prng: &mut Prng) -> Call {
+    let call = sound_open(prng, Start::New);
+    let call = with_run(prng, call);
+    half_damaged(prng, call)
+}
+
+fn with_run(prng: &mut Prng, call: Call) -> Call {
+    let len = lent_length(prng, call.run_len());
+    call.into_run(prng.words(len))
 }
 
 /// The same to be converted: a parcel of the new start is done already.
 fn random_convert(prng: &mut Prng) -> Call {
     let sealing = random_seal(prng);
     let parcel = sealing.parcel(prng.pick(&[Start::New, Start::Old]));
-    let output_len = output_length(prng, parcel.len());
+    let output_len = lent_length(prng, parcel.len());
     let call = sealing.into_convert(parcel, output_len);
     half_damaged(prng, call)
 }
@@ -115,7 +134,7 @@ fn random_walk(prng: &mut Prng) -> Call {
         }
     }
     let start = exact_length_bytes(prng, 128);
-    Call::walk(start, steps, output_length(prng, 128))
+    Call::walk(start, steps, lent_length(prng, 128))
 }
 
 fn random_jump(prng: &mut Prng) -> Call {
@@ -130,7 +149,7 @@ fn random_jump(prng: &mut Prng) -> Call {
         };
     }
     let start = exact_length_bytes(prng, 128);
-    Call::jump(start, counts, output_length(prng, 128))
+    Call::jump(start, counts, lent_length(prng, 128))
 }
 
 fn random_settings(prng: &mut Prng) -> (u32, u32) {
@@ -171,7 +190,7 @@ fn length(prng: &mut Prng, max: usize) -> usize {
 }
 
 /// Mostly `needed` or more; now and then too short.
-fn output_length(prng: &mut Prng, needed: usize) -> usize {
+fn lent_length(prng: &mut Prng, needed: usize) -> usize {
     match prng.below(12) {
         0..=5 => needed,
         6..=9 => needed + prng.below(200),

@@ -13,7 +13,7 @@ use reference::Start;
 type Replay = fn(&Library, &mut Case) -> Result<(), String>;
 
 /// The calls that can be replayed, by their word. Another call is another line here.
-const CALLS: [(&str, Replay); 9] = [
+const CALLS: [(&str, Replay); 11] = [
     ("seal", |library, case| {
         sealing(library, case, |mode, rounds| Entry::Seal { mode, rounds })
     }),
@@ -33,6 +33,18 @@ const CALLS: [(&str, Replay); 9] = [
     }),
     ("convert", |library, case| {
         sealing(library, case, |mode, rounds| Entry::Convert {
+            mode,
+            rounds,
+        })
+    }),
+    ("seal_run", |library, case| {
+        running(library, case, |mode, rounds| Entry::SealRun {
+            mode,
+            rounds,
+        })
+    }),
+    ("open_run", |library, case| {
+        running(library, case, |mode, rounds| Entry::OpenRun {
             mode,
             rounds,
         })
@@ -69,6 +81,19 @@ fn sealing(library: &Library, case: &mut Case, entry: fn(u32, u32) -> Entry) -> 
     let inputs = inputs.each_ref().map(|input| &**input);
     let output = case.lent()?;
     written(library, case, entry, &inputs, output)
+}
+
+/// The same with `words` behind the output, in the call and in its answer.
+fn running(library: &Library, case: &mut Case, entry: fn(u32, u32) -> Entry) -> Result<(), String> {
+    let entry = entry(case.number()?, case.number()?);
+    let inputs = [case.input()?, case.input()?, case.input()?, case.input()?];
+    let inputs = inputs.each_ref().map(|input| &**input);
+    let (mut output, mut words) = (case.lent()?, case.lent_words()?);
+    let lent = words.now.words();
+    let answer = library.call_with_words(entry, &inputs, &mut output.now, lent, case.null);
+    case.answers(answer)?;
+    case.holds(&output)?;
+    case.holds(&words)
 }
 
 /// `key store machine sale tail amount column means clock`, answered by `number value store`.

@@ -2,11 +2,13 @@
 
 use crate::call::Call;
 use crate::library::{expected, Library};
+use std::ops::Range;
 
-/// Bytes watched on both sides of an output, and what they hold.
+/// Bytes or words watched on both sides of a buffer that is written, and what they hold.
 const MARGIN: usize = 64;
 const MARGIN_BYTE: u8 = 0xa5;
-/// An output begins at a multiple of it, as a variable of C does.
+const MARGIN_WORD: u64 = 0xa5a5_a5a5_a5a5_a5a5;
+/// Such a buffer begins at a multiple of so many bytes, as a variable of C does.
 const ALIGNMENT: usize = 8;
 /// Failures shown of one check.
 const SHOWN: u64 = 10;
@@ -69,27 +71,56 @@ impl<'a> Check<'a> {
     /// Makes `call` and compares the answer and every byte with the second implementation. Returns
     /// the answer and the output.
     pub fn compare(&mut self, call: &Call) -> (u64, Vec<u8>) {
+        let (answer, output, _) = self.compare_words(call);
+        (answer, output)
+    }
+
+    /// The same, and the words besides.
+    pub fn compare_words(&mut self, call: &Call) -> (u64, Vec<u8>, Vec<u64>) {
         let inputs = call.slices();
         let before = call.inputs.clone();
-        let mut found = vec![MARGIN_BYTE; call.output.len() + 2 * MARGIN + ALIGNMENT];
-        let begin = MARGIN + found[MARGIN..].as_ptr().align_offset(ALIGNMENT);
-        let lent = begin..begin + call.output.len();
-        found[lent.clone()].copy_from_slice(&call.output);
-        let mut wanted = found.clone();
-        let wanted_answer = expected(call.entry, &inputs, &mut wanted[lent.clone()]);
-        let answer = self
-            .library
-            .call(call.entry, &inputs, &mut found[lent.clone()], true);
-        let passed = answer == wanted_answer && found == wanted && call.inputs == before;
-        self.record(passed, || {
-            let byte = found.iter().zip(&wanted).position(|(a, b)| a != b);
-            let byte = byte.map(|at| at as isize - begin as isize);
-            let inputs = call.inputs == before;
+        let mut output = Watched::new(&call.output, MARGIN_BYTE);
+        let mut words = Watched::new(&call.words, MARGIN_WORD);
+        let (mut wanted, mut wanted_words) = (output.clone(), words.clone());
+        let wanted_answer = expected(call.entry, &inputs, wanted.lent(), wanted_words.lent());
+        let (library, lent) = (self.library, (output.lent(), words.lent()));
+        let answer = library.call_with_words(call.entry, &inputs, lent.0, lent.1, true);
+        let unchanged = call.inputs == before;
+        let same = output == wanted && words == wanted_words;
+        self.record(answer == wanted_answer && same && unchanged, || {
+            let (byte, word) = (output.differs(&wanted), words.differs(&wanted_words));
             format!(
-                "{call}: answer {answer:#x}, expected {wanted_answer:#x}; \
-                 output differs first at {byte:?}; inputs unchanged: {inputs}"
+                "{call}: answer {answer:#x}, expected {wanted_answer:#x}; output differs first at \
+                 {byte:?}, words at {word:?}; inputs unchanged: {unchanged}"
             )
         });
-        (answer, found[lent].to_vec())
+        (answer, output.lent().to_vec(), words.lent().to_vec())
+    }
+}
+
+/// A copy of a buffer that is lent to be written, with watched room on both sides.
+#[derive(Clone, PartialEq)]
+struct Watched<T> {
+    all: Vec<T>,
+    lent: Range<usize>,
+}
+
+impl<T: Copy + PartialEq> Watched<T> {
+    fn new(lent: &[T], margin: T) -> Self {
+        let mut all = vec![margin; lent.len() + 2 * MARGIN + ALIGNMENT];
+        let begin = MARGIN + all[MARGIN..].as_ptr().align_offset(ALIGNMENT);
+        let range = begin..begin + lent.len();
+        all[range.clone()].copy_from_slice(lent);
+        Self { all, lent: range }
+    }
+
+    fn lent(&mut self) -> &mut [T] {
+        &mut self.all[self.lent.clone()]
+    }
+
+    /// Where the two differ first, counted from where the buffer begins.
+    fn differs(&self, other: &Self) -> Option<isize> {
+        let at = self.all.iter().zip(&other.all).position(|(a, b)| a != b)?;
+        Some(at as isize - self.lent.start as isize)
     }
 }

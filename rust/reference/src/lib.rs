@@ -13,12 +13,14 @@ mod maskwalk;
 mod matrix;
 mod mode;
 mod permutation;
+mod run;
 pub mod store;
 
 pub use block::{Block, BLOCK_LEN};
 pub use maskwalk::maskwalk;
 pub use mode::{Start, TAG_LEN};
 pub use permutation::{permute, unpermute};
+pub use run::run_len;
 
 use mode::Cipher;
 
@@ -88,11 +90,7 @@ pub fn seal_under(
     output: &mut [u8],
 ) -> Result<usize, Refusal> {
     check_settings(mode, rounds, key, nonce, header)?;
-    let parcel_len = message.len() + TAG_LEN;
-    check(&[
-        (message.len() > MAX_MESSAGE_LEN, 6),
-        (output.len() < parcel_len, 7),
-    ])?;
+    check_message(message, output.len() < message.len() + TAG_LEN)?;
     let cipher = Cipher::new(start, rounds, key, nonce);
     Ok(write(&parcel_of(&cipher, mode, header, message), output))
 }
@@ -116,6 +114,43 @@ pub fn open_under(
             Err((9, 0))
         }
     }
+}
+
+/// Seals as [`seal`] does, with the run of the masks left in `words`.
+pub fn seal_run(
+    mode: u32,
+    rounds: u32,
+    inputs: [&[u8]; 4],
+    output: &mut [u8],
+    words: &mut [u64],
+) -> Result<usize, Refusal> {
+    let [key, nonce, header, message] = inputs;
+    let len = run_len(header.len(), message.len());
+    let short = output.len() < message.len() + TAG_LEN;
+    check_settings(mode, rounds, key, nonce, header)?;
+    check_message(message, short || words.len() < len)?;
+    let run = Cipher::new(Start::New, rounds, key, nonce).run(len);
+    words[..len].copy_from_slice(&run);
+    seal_under(Start::New, mode, rounds, inputs, output)
+}
+
+/// Opens as [`open`] does, with the run of the masks left in `words`, where the tag differs too.
+pub fn open_run(
+    mode: u32,
+    rounds: u32,
+    inputs: [&[u8]; 4],
+    output: &mut [u8],
+    words: &mut [u64],
+) -> Result<usize, Refusal> {
+    let [key, nonce, header, parcel] = inputs;
+    let message_len = parcel.len().saturating_sub(TAG_LEN);
+    let len = run_len(header.len(), message_len);
+    let short = output.len() < message_len;
+    check_settings(mode, rounds, key, nonce, header)?;
+    check_parcel(parcel, short || words.len() < len)?;
+    let run = Cipher::new(Start::New, rounds, key, nonce).run(len);
+    words[..len].copy_from_slice(&run);
+    open_under(Start::New, mode, rounds, inputs, output)
 }
 
 /// Seals the message of a parcel of the old start under the new one. A refusal changes no output.
@@ -191,7 +226,7 @@ pub fn jump(start: &[u8], counts: [i32; 3], output: &mut [u8]) -> Result<usize, 
     Ok(write(&block::to_bytes(&reached), output))
 }
 
-/// The first five checks of seal, open and convert.
+/// The first five checks of the calls that seal, open or convert.
 fn check_settings(
     mode: u32,
     rounds: u32,
@@ -208,7 +243,12 @@ fn check_settings(
     ])
 }
 
-/// The next three of open and convert, which differ in when the output is too `short`.
+/// The next two of seal and seal_run, which differ in when what is lent is too `short`.
+fn check_message(message: &[u8], short: bool) -> Result<(), Refusal> {
+    check(&[(message.len() > MAX_MESSAGE_LEN, 6), (short, 7)])
+}
+
+/// The next three of the calls that take a parcel, which differ in the same.
 fn check_parcel(parcel: &[u8], short: bool) -> Result<(), Refusal> {
     check(&[
         (parcel.len() < TAG_LEN, 8),

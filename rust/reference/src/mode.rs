@@ -3,6 +3,7 @@
 use crate::block::{from_bytes, pad_one, split, sum, to_bytes, xor, Block, BLOCK_LEN, ZERO};
 use crate::mask;
 use crate::permutation::{permute, unpermute};
+use crate::run;
 
 /// Bytes of a tag.
 pub const TAG_LEN: usize = 32;
@@ -35,6 +36,11 @@ impl Cipher {
             rounds,
             start: permute(rounds, &block),
         }
+    }
+
+    /// The first `len` words of the start's run.
+    pub fn run(&self, len: usize) -> Vec<u64> {
+        run::words(&self.start, len)
     }
 
     fn masks(&self, last: usize, beta: i32, gamma: i32) -> Vec<Block> {

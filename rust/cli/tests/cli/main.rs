@@ -1,6 +1,7 @@
 //! The tool as a user runs it.
 
 mod convert;
+mod engine;
 mod files;
 mod progress;
 mod store;

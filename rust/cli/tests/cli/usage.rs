@@ -23,7 +23,7 @@ fn help(command: &[&str]) -> String {
 }
 
 /// Arguments, and what the error says.
-const WRONG: [(&[&str], &str); 32] = [
+const WRONG: [(&[&str], &str); 38] = [
     (&[], "no command"),
     (&["wrap"], "unknown command 'wrap'"),
     (&["seal"], "--key or --key-file is needed"),
@@ -31,6 +31,21 @@ const WRONG: [(&[&str], &str); 32] = [
     (&["seal", "--steps", "a"], "unknown option '--steps'"),
     (&["seal", "--old-start"], "unknown option '--old-start'"),
     (&["open", "--old-start=yes"], "--old-start takes no value"),
+    (
+        &["seal", "--engine", "fast"],
+        "--engine is step or run; see 'calmbaize seal --help'",
+    ),
+    (&["open", "--engine="], "--engine is step or run"),
+    (
+        &["open", "--old-start", "--engine", "run"],
+        "--engine run and --old-start exclude each other",
+    ),
+    (&["convert", "--engine=step"], "unknown option '--engine'"),
+    (&["walk", "--engine=run"], "unknown option '--engine'"),
+    (
+        &["store", "list", "a", "--engine=run"],
+        "unknown option '--engine'",
+    ),
     (&["convert"], "--key or --key-file is needed"),
     (
         &["convert", "--key", KEY, "-i", "x"],

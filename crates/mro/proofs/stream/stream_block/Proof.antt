@@ -1,35 +1,16 @@
--- The four words and the count are the counter's block. Assumes nothing.
-use Rattle.words.proofs.Arrays.{array-block}
-use Rattle.mro.proofs.Streams.{counter-words}
+-- E of the counter's block. Assumes nothing.
 use borrow.Author.Needs.{needs}
 use Rattle.mro.proofs.stream.stream_block.Statement.{statement}
 use Rattle.mro.proofs.stream.stream_block.Tie as tie
 
-array-read-t0 : tie.Need-array-read-t0
-array-read-t0 c = search needs
-
-array-read-t1 : tie.Need-array-read-t1
-array-read-t1 c = search needs
-
-array-read-t2 : tie.Need-array-read-t2
-array-read-t2 c = search needs
-
-array-read-t3 : tie.Need-array-read-t3
-array-read-t3 c = search needs
+counter-block-requires : tie.Need-counter-block-requires
+counter-block-requires c κs = search needs
 
 encipher-requires : tie.Need-encipher-requires
 encipher-requires c κs = search needs
 
 returns : tie.Need-returns
-returns c = rw (counter-words _ (array-block _ _ (c .before .good .0)) _) (c .encipher .ensures)
+returns c = rw (c .encipher .ensures, c .before .counter-block .ensures)
 
 pub stream-block-spec : {M : Type 1} → statement M
-stream-block-spec =
-    tie.close
-    (tie.spec
-    array-read-t0
-    array-read-t1
-    array-read-t2
-    array-read-t3
-    encipher-requires
-    returns)
+stream-block-spec = tie.close (tie.spec counter-block-requires encipher-requires returns)

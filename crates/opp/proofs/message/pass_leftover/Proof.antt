@@ -1,12 +1,4 @@
--- The leftover's two forms are as long as each other, so the front of the output is what was made. Assumes nothing.
-use mathlib.Core.Path.{sym, ap, ap₂, _∙_}
-use native.Mathlib.Omega.{arith}
-use lib.ListN.{length, take, length-take}
-use lib.Seq.{length-take-le, take-at}
-use denote.Ref.{now}
-use Rattle.words.specs.Block.{xorBlock}
-use Rattle.words.proofs.Blocks.{length-xorBytes}
-use Rattle.mem.specs.Mem.{encipher}
+-- The leftover under beta of the mask. Assumes nothing.
 use borrow.Author.Needs.{needs}
 use Rattle.opp.proofs.message.pass_leftover.Statement.{statement}
 use Rattle.opp.proofs.message.pass_leftover.Tie as tie
@@ -14,53 +6,18 @@ use Rattle.opp.proofs.message.pass_leftover.Tie as tie
 beta-requires : tie.Need-beta-requires
 beta-requires c κs = search needs
 
-zero-requires : tie.Need-zero-requires
-zero-requires c κs = search needs
-
-encipher-requires : tie.Need-encipher-requires
-encipher-requires c κs = search needs
-
-xor-leftover-requires : tie.Need-xor-leftover-requires
-xor-leftover-requires c κs = search needs
-
-slice-reshare-prefix-padded-plain : tie.Need-slice-reshare-prefix-padded-plain
-slice-reshare-prefix-padded-plain c = search needs
-
-slice-aggregate-padded-plain : tie.Need-slice-aggregate-padded-plain
-slice-aggregate-padded-plain c = sym (length-take-le _ _ (omega (arith, c .before .before .before .xor-leftover .kept .1 .1 .0)))
-
-padded-plain-requires : tie.Need-padded-plain-requires
-padded-plain-requires c κs = (simp length-take (omega arith), omega arith)
-
-xor-requires : tie.Need-xor-requires
-xor-requires c κs = search needs
+pass-leftover-under-requires : tie.Need-pass-leftover-under-requires
+pass-leftover-under-requires c κs = search needs
 
 same-length : tie.Need-same-length
 same-length c = search needs
 
 returns : tie.Need-returns
 returns c =
-    let a = c .before .before .before .before .before .before .before .before .before .before .before .before .before .before .args in
-    let s = now (a .s) in
-    let mask = c .before .before .before .before .before .before .before .before .before .before .beta .ensures in
-    let stream = c .before .before .before .before .before .before .before .before .encipher .ensures
-    ∙ ap₂ (encipher (a .rounds)) mask (c .before .before .before .before .before .before .before .before .before .zero .ensures) in
-    let put = rw stream at (c .before .before .before .before .before .before .xor-leftover .ensures) in
-    let front = ap (take (length s)) put ∙ take-at _ _ (length s) (length-xorBytes s _) in
-    let last = rw front at (c .before .before .padded-plain .ensures) in
-    (put, (c .xor .ensures ∙ ap (xorBlock (a .blocks .sum)) last, mask))
+    let mask = c .before .before .before .before .before .beta .ensures in
+    let under = rw mask at (c .before .before .pass-leftover-under .ensures) in
+    (under .0, (under .1, mask))
 
 pub pass-leftover-spec : {M : Type 1} → statement M
 pass-leftover-spec =
-    tie.close
-    (tie.spec
-    beta-requires
-    zero-requires
-    encipher-requires
-    xor-leftover-requires
-    slice-reshare-prefix-padded-plain
-    slice-aggregate-padded-plain
-    padded-plain-requires
-    xor-requires
-    same-length
-    returns)
+    tie.close (tie.spec beta-requires pass-leftover-under-requires same-length returns)

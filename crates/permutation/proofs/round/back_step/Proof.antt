@@ -14,25 +14,25 @@ mul-q c = search needs
 array-copy-out-q : tie.Need-array-copy-out-q
 array-copy-out-q c = search needs
 
-array-read-back-g : tie.Need-array-read-back-g
-array-read-back-g c = search needs
+array-read-back-g-at : tie.Need-array-read-back-g-at
+array-read-back-g-at c = search needs
 
-array-read-back-g-2 : tie.Need-array-read-back-g-2
-array-read-back-g-2 c = search needs
+array-read-back-g-at-2 : tie.Need-array-read-back-g-at-2
+array-read-back-g-at-2 c = search needs
 
-array-read-back-g-3 : tie.Need-array-read-back-g-3
-array-read-back-g-3 c = search needs
+array-read-back-g-at-3 : tie.Need-array-read-back-g-at-3
+array-read-back-g-at-3 c = search needs
 
-array-read-back-g-4 : tie.Need-array-read-back-g-4
-array-read-back-g-4 c = search needs
+array-read-back-g-at-4 : tie.Need-array-read-back-g-at-4
+array-read-back-g-at-4 c = search needs
 
 returns : tie.Need-returns
 unfolding groups columns diagonals backGAt stepAt pick put
-returns c = c .back-g .ensures
+returns c = c .back-g-at .ensures
 
-back-g-requires : tie.Need-back-g-requires
+back-g-at-requires : tie.Need-back-g-at-requires
 unfolding groups columns diagonals
-back-g-requires c κs = row-in (getD groups (c .before .args .k) []) (row-at groups groups-rows (c .before .args .k) (c .before .pre))
+back-g-at-requires c κs = row-in (getD groups (c .before .args .k) []) (row-at groups groups-rows (c .before .args .k) (c .before .pre))
 
 pub back-step-spec : {M : Type 1} → statement M
 back-step-spec =
@@ -40,9 +40,9 @@ back-step-spec =
     (tie.spec
     mul-q
     array-copy-out-q
-    array-read-back-g
-    array-read-back-g-2
-    array-read-back-g-3
-    array-read-back-g-4
-    back-g-requires
+    array-read-back-g-at
+    array-read-back-g-at-2
+    array-read-back-g-at-3
+    array-read-back-g-at-4
+    back-g-at-requires
     returns)

@@ -14,25 +14,25 @@ mul-q c = search needs
 array-copy-out-q : tie.Need-array-copy-out-q
 array-copy-out-q c = search needs
 
-array-read-g : tie.Need-array-read-g
-array-read-g c = search needs
+array-read-g-at : tie.Need-array-read-g-at
+array-read-g-at c = search needs
 
-array-read-g-2 : tie.Need-array-read-g-2
-array-read-g-2 c = search needs
+array-read-g-at-2 : tie.Need-array-read-g-at-2
+array-read-g-at-2 c = search needs
 
-array-read-g-3 : tie.Need-array-read-g-3
-array-read-g-3 c = search needs
+array-read-g-at-3 : tie.Need-array-read-g-at-3
+array-read-g-at-3 c = search needs
 
-array-read-g-4 : tie.Need-array-read-g-4
-array-read-g-4 c = search needs
+array-read-g-at-4 : tie.Need-array-read-g-at-4
+array-read-g-at-4 c = search needs
 
 returns : tie.Need-returns
 unfolding groups columns diagonals gAt stepAt pick put
-returns c = c .g .ensures
+returns c = c .g-at .ensures
 
-g-requires : tie.Need-g-requires
+g-at-requires : tie.Need-g-at-requires
 unfolding groups columns diagonals
-g-requires c κs = row-in (getD groups (c .before .args .k) []) (row-at groups groups-rows (c .before .args .k) (c .before .pre))
+g-at-requires c κs = row-in (getD groups (c .before .args .k) []) (row-at groups groups-rows (c .before .args .k) (c .before .pre))
 
 pub step-spec : {M : Type 1} → statement M
 step-spec =
@@ -40,9 +40,9 @@ step-spec =
     (tie.spec
     mul-q
     array-copy-out-q
-    array-read-g
-    array-read-g-2
-    array-read-g-3
-    array-read-g-4
-    g-requires
+    array-read-g-at
+    array-read-g-at-2
+    array-read-g-at-3
+    array-read-g-at-4
+    g-at-requires
     returns)

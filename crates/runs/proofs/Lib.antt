@@ -1,0 +1,2 @@
+mod Grown
+pub mod Planned

@@ -1,0 +1,63 @@
+//! The library's archive for x86-64-v3, which the build script links under names of its own, and
+//! whether the processor can run it.
+
+#[cfg(wide)]
+macro_rules! calls {
+    ($($name:ident($($word:ident: $type:ty),*);)*) => {
+        extern "C" {
+            $(pub fn $name(
+                mode: u32,
+                rounds: u32,
+                key: *const u8,
+                key_len: usize,
+                nonce: *const u8,
+                nonce_len: usize,
+                header: *const u8,
+                header_len: usize,
+                input: *const u8,
+                input_len: usize,
+                output: *mut u8,
+                output_len: usize,
+                $($word: $type),*
+            ) -> u64;)*
+        }
+    };
+}
+
+#[cfg(wide)]
+calls! {
+    wide_seal();
+    wide_open();
+    wide_seal_run(words: *mut u64, words_len: usize);
+    wide_open_run(words: *mut u64, words_len: usize);
+}
+
+/// Whether the processor has what x86-64-v3 asks for, AVX2 among it.
+#[cfg(target_arch = "x86_64")]
+pub fn runs() -> bool {
+    use std::arch::is_x86_feature_detected as has;
+    has!("avx2")
+        && has!("bmi1")
+        && has!("bmi2")
+        && has!("f16c")
+        && has!("fma")
+        && has!("lzcnt")
+        && has!("movbe")
+}
+
+/// Whether the processor has what x86-64-v3 asks for: no other kind has.
+#[cfg(not(target_arch = "x86_64"))]
+pub fn runs() -> bool {
+    false
+}
+
+/// Why the archive for x86-64-v3 is not measured, where it is not.
+pub fn missing() -> Option<&'static str> {
+    if !runs() {
+        Some("the processor has no AVX2: the archive for x86-64-v3 and the AVX2 C are not measured")
+    } else if !cfg!(wide) {
+        Some("no archive for x86-64-v3 was found: it is not measured")
+    } else {
+        None
+    }
+}
