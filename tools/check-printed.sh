@@ -64,7 +64,7 @@ BEGIN {
     }
     check(definitions, "columns =", columns)
     check(definitions, "diagonals =", diagonals)
-    check(groups, "const GROUPS", table)
+    check(groups, "pub const GROUPS", table)
     check(groups, "pub fn round(", round)
     check(page, "| Section 8 |", rows)
 
