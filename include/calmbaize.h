@@ -16,8 +16,8 @@
  *   - Nothing is kept between calls and nothing is allocated. Calls may run at
  *     the same time where nothing that one of them writes belongs to another.
  *   - An answer must be looked at: a refused call leaves the output as it was,
- *     or zero, and the store and the total as they were. Compilers warn where
- *     one is dropped.
+ *     or zero, the words as they were, or on 9 with the run in them, and the
+ *     store and the total as they were. Compilers warn where one is dropped.
  *   - No branch and no address depends on the key, the nonce, the message, the
  *     parcel's content or its tag, on what the words hold, or on the start of a
  *     walk or jump, but for this: in calmbaize_convert(), whether the parcel
@@ -300,7 +300,8 @@ uint64_t calmbaize_seal_run(uint32_t mode, uint32_t rounds,
  *
  * What the words hold before does not matter. Success leaves the run in the first
  * calmbaize_run_words(header_len, input_len - 32) of them, and the rest unchanged;
- * so does refusal 9. Keep the words private, and overwrite them when done.
+ * so does refusal 9. Keep the words private, and overwrite them when done. For an
+ * input under 32 bytes, which is refused, any number of words will do.
  *
  * Refused, in this order, with 1, 2, 3, 4, 5, 8, 6, with 7 where the output is
  * shorter than the message or the words are fewer than the run, and with 9. On 9

@@ -76,8 +76,8 @@ pub extern "C" fn calmbaize_convert(
     answers::code(converting::convert(mode, rounds, key, nonce, header, input, output))
 }
 
-// Seals a message from a run of words: what calmbaize_seal answers and writes, and the run in the
-// words.
+// Seals a message from a run of words: with words enough, what calmbaize_seal answers and writes; success
+// leaves the run in the words.
 #[no_mangle]
 pub extern "C" fn calmbaize_seal_run(
     mode: u32,
@@ -94,7 +94,8 @@ pub extern "C" fn calmbaize_seal_run(
     answers::code(run_sealing::seal(mode, rounds, key, nonce, header, input, output, words))
 }
 
-// Opens a parcel from a run of words: what calmbaize_open answers and writes, and the run in the words.
+// Opens a parcel from a run of words: with words enough, what calmbaize_open answers and writes; success
+// and refusal 9 leave the run in the words.
 #[no_mangle]
 pub extern "C" fn calmbaize_open_run(
     mode: u32,

@@ -1,4 +1,4 @@
--- The checks of seal, open and convert, and of sealing and opening from a run, over settings and lengths alone (document 01, "Entry points and where each call is checked"). Assumes nothing.
+-- The checks of seal, open and convert, and of sealing and opening from a run, over settings and lengths alone (document 01, "Entry points and where each call is checked"; document 02, card 6, for a run). Assumes nothing.
 use mathlib.Core.Bool.{Bool, false, not, cond, _||_}
 use mathlib.Core.List.{List, [], _∷_}
 use Prim.Native.Nat.{ℕ, _+_, _-_, _/_}
@@ -30,11 +30,11 @@ settings mode rounds key nonce header next =
     (line (not (eqb nonce 16)) NonceLength
     (line (ltb 4096 header) HeaderLength next))))
 
--- seal, sixth: the message's length; then the checks behind it
+-- seal, first to sixth: the settings and the message's length; then the checks behind it
 unfoldable pub sealInputs : ℕ → ℕ → ℕ → ℕ → ℕ → ℕ → Check → Check
 sealInputs mode rounds key nonce header message next = settings mode rounds key nonce header (line (ltb 65536 message) InputLength next)
 
--- open, convert, sixth and seventh: the parcel's length; then the checks behind it
+-- open, convert, first to seventh: the settings and the parcel's length; then the checks behind it
 unfoldable pub openInputs : ℕ → ℕ → ℕ → ℕ → ℕ → ℕ → Check → Check
 openInputs mode rounds key nonce header parcel next =
     settings mode rounds key nonce header (line (ltb parcel 32) TagMissing (line (ltb 65568 parcel) InputLength next))

@@ -16,12 +16,13 @@ use Rattle.answers.specs.declared.Check.{Check}
 use Rattle.answers.specs.declared.Check.the-variants.{Clear, Fails}
 use Rattle.answers.specs.declared.Answer.{Answer}
 use Rattle.answers.specs.declared.Answer.the-variants.{Done, Refused}
-use Rattle.answers.proofs.Values.{isDone, passed-on}
+use Rattle.answers.proofs.Values.{isDone, stopped, passed-on}
 use Rattle.masks.specs.Steps.{alphaW}
 use Rattle.masks.specs.Run.{run, grown}
 use Rattle.masks.proofs.Run.{run-at, run-new, grown-run, window, window-beta, window-gamma}
 use Rattle.mem.specs.Mem.{startOf}
 use Rattle.mem.proofs.Laws.{start-block}
+use Rattle.runs.proofs.Planned.{beta-on}
 use Rattle.checks.specs.Checks.{settings, openInputs, runLength, sealRunChecks, openRunChecks}
 use Rattle.checks.proofs.Runs.{run-long, seal-run-after, open-run-after, seal-run-same, open-run-same}
 use Rattle.sealing.specs.Sealing.{verdict, sealFrom, openFrom, sealCall, openCall}
@@ -37,6 +38,7 @@ one-run = record {
   alphas = window;
   betas = window-beta;
   gammas = window-gamma;
+  further = beta-on;
 }
 
 -- ---- a call that writes words too, after its checks
@@ -131,6 +133,10 @@ same-engine = record {
       same-checked out words _ _ _ (seal-run-same mode rounds (length key) (length nonce) (length header) (length message) (length out) (length words) h);
   opens = λ mode rounds key nonce header parcel out words h.
       same-checked out words _ _ _ (open-run-same mode rounds (length key) (length nonce) (length header) (length parcel) (length out) (length words) h);
+  seals-refused = λ mode rounds key nonce header message out words g at e.
+      refused-as (out, words) _ _ g at (stopped _ _ (seal-run-after mode rounds (length key) (length nonce) (length header) (length message) (length out) (length words)) e);
+  opens-refused = λ mode rounds key nonce header parcel out words g at e.
+      refused-as (out, words) _ _ g at (stopped _ _ (open-run-after mode rounds (length key) (length nonce) (length header) (length parcel) (length out) (length words)) e);
   seals-short = λ mode rounds key nonce header message out words clear h.
       refused-as (out, words) _ _ OutputLength 0
       (passed-on _ _ (seal-run-after mode rounds (length key) (length nonce) (length header) (length message) (length out) (length words)) clear ∙ short _ _ h);

@@ -1,20 +1,20 @@
 -- All masks come from one run of words, and sealing and opening from the run are sealing and opening (document 02, card 6). Assumes nothing.
 use mathlib.Core.Path.{_≡_}
 use mathlib.Core.List.{List, _++_}
-use Prim.Native.Nat.{ℕ, _+_, _-_, _≤_, _<_}
+use Prim.Native.Nat.{ℕ, suc, _+_, _-_, _≤_, _<_}
 use lib.ListN.{length, getD, drop}
 use lib.Bits.{bitXor}
 use Rattle.words.specs.Sequence.{tab, times}
 use Rattle.words.specs.Word.{rotL, shl}
-use Rattle.words.specs.Block.{Block, Bytes}
+use Rattle.words.specs.Block.{Block, Bytes, xorBlock}
 use Rattle.answers.specs.declared.Ground.{Ground}
 use Rattle.answers.specs.declared.Ground.the-variants.{OutputLength, TagDiffers}
-use Rattle.answers.specs.declared.Check.the-variants.{Clear}
+use Rattle.answers.specs.declared.Check.the-variants.{Clear, Fails}
 use Rattle.answers.specs.declared.Answer.{Answer}
 use Rattle.answers.specs.declared.Answer.the-variants.{Done, Refused}
 use Rattle.masks.specs.Steps.{alpha, beta, gamma}
 use Rattle.masks.specs.Run.{run, grown}
-use Rattle.mem.specs.Mem.{startOf}
+use Rattle.mem.specs.Mem.{startOf, maskAt}
 use Rattle.checks.specs.Checks.{runLength, sealChecks, openChecks}
 use Rattle.sealing.specs.Sealing.{sealCall, openCall}
 use Rattle.run_sealing.specs.RunSealing.{sealRunCall, openRunCall}
@@ -33,6 +33,8 @@ pub record OneRun : Type 0 where
   pub betas : (s : List ℕ) → Block s → (n : ℕ) → tab (λ i. bitXor (run s (n + i + 1)) (run s (n + i))) 16 ≡ beta (times alpha n s)
   pub gammas : (s : List ℕ) → Block s → (n : ℕ)
       → tab (λ i. bitXor (bitXor (run s (n + i + 2)) (run s (n + i + 1))) (run s (n + i))) 16 ≡ gamma (times alpha n s)
+  -- each further beta step on any mask is the mask an alpha step on, xor the mask: so the plan's (m, 1, 1) to (m, 3, 1) and (0, 2, 0) come from five words more
+  pub further : (s : List ℕ) → Block s → (n j k : ℕ) → xorBlock (maskAt s (n + 1) j k) (maskAt s n j k) ≡ maskAt s n (suc j) k
 
 -- the answer and the output of a call that writes words too
 abbrev pub without : Answer × (List ℕ × List ℕ) → Answer × List ℕ
@@ -52,6 +54,13 @@ pub record SameEngine : Type 0 where
       → without (sealRunCall mode rounds key nonce header message out words) ≡ sealCall mode rounds key nonce header message out
   pub opens : (mode rounds : ℕ) (key nonce header parcel out words : List ℕ) → runLength (length header) (length parcel - 32) ≤ length words
       → without (openRunCall mode rounds key nonce header parcel out words) ≡ openCall mode rounds key nonce header parcel out
+  -- what seal and open refuse by their checks is refused as they do, however many words there are, and nothing changes
+  pub seals-refused : (mode rounds : ℕ) (key nonce header message out words : List ℕ) (ground : Ground) (place : ℕ)
+      → sealChecks mode rounds (length key) (length nonce) (length header) (length message) (length out) ≡ Fails ground place
+      → sealRunCall mode rounds key nonce header message out words ≡ (Refused ground place, (out, words))
+  pub opens-refused : (mode rounds : ℕ) (key nonce header parcel out words : List ℕ) (ground : Ground) (place : ℕ)
+      → openChecks mode rounds (length key) (length nonce) (length header) (length parcel) (length out) ≡ Fails ground place
+      → openRunCall mode rounds key nonce header parcel out words ≡ (Refused ground place, (out, words))
   -- words too few: 7, where nothing else is refused, and nothing changes
   pub seals-short : (mode rounds : ℕ) (key nonce header message out words : List ℕ)
       → sealChecks mode rounds (length key) (length nonce) (length header) (length message) (length out) ≡ Clear → length words < runLength (length header) (length message)

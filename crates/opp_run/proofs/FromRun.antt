@@ -1,14 +1,13 @@
 -- The plan of OPP under masks out of a run. Assumes nothing.
 use mathlib.Core.Path.{_≡_, sym, ap, ap₂, _∙_}
 use mathlib.Core.Bool.{Bool, false}
-use mathlib.Core.List.{List}
+use mathlib.Core.List.{List, _++_}
 use Prim.Native.Nat.{ℕ, _+_, _≤_, _<_}
 use native.Mathlib.Omega.{arith}
-use lib.ListN.{length, getD, take}
-use lib.Seq.{getD-take}
+use lib.ListN.{length, getD, take, List·getD-append}
 use Rattle.words.specs.Sequence.{tab}
 use Rattle.words.specs.Block.{Block, xorBlock}
-use Rattle.words.proofs.Lists.{tab-ext, getD-tab}
+use Rattle.words.proofs.Lists.{length-tab, tab-ext, getD-tab}
 use Rattle.masks.specs.Steps.{beta}
 use Rattle.masks.specs.Run.{neighbours, maskFrom, IsRun}
 use Rattle.mem.specs.Mem.{maskAt, E}
@@ -22,10 +21,12 @@ module _ (w : List ℕ) (is : IsRun w) (b : Block (take 16 w)) (s : List ℕ) (r
   gamma-at : (i : ℕ) → i ≤ whole s + 3 → maskFrom 2 w i ≡ maskAt (take 16 w) i 0 1
   gamma-at i h = plan-gamma w is b i (omega arith)
 
-  module _ (g : List ℕ) (made : take (whole s + 16) g ≡ tab (neighbours 2 w) (whole s + 16)) where
+  module _ (g rest : List ℕ) (made : g ≡ tab (neighbours 2 w) (whole s + 16) ++ rest) where
     -- one word of the gamma masks
     word-at : (t : ℕ) → t < whole s + 16 → getD g t 0 ≡ neighbours 2 w t
-    word-at t h = sym (getD-take (whole s + 16) g t 0 h) ∙ ap (λ (l : List ℕ). getD l t 0) made ∙ getD-tab (neighbours 2 w) (whole s + 16) t h
+    word-at t h =
+        ap (λ (l : List ℕ). getD l t 0) made ∙ List·getD-append (tab (neighbours 2 w) (whole s + 16)) rest 0 t (rw (length-tab (neighbours 2 w) (whole s + 16)) h)
+        ∙ getD-tab (neighbours 2 w) (whole s + 16) t h
 
     made-at : (i : ℕ) → i ≤ whole s → maskFrom 0 g i ≡ maskAt (take 16 w) i 0 1
     unfolding maskFrom neighbours

@@ -13,7 +13,7 @@ ghost use Rattle.opp.specs.Opp.{oppCheck};
 ghost use Rattle.opp.specs.Pass.{written, plain};
 
 // All bytes; what comes back is the check over the plain ones. The words of the gamma masks are made once
-// from the run, since each is used four times over.
+// from the run, since each stands in up to sixteen masks.
 pub fn pass(run: &[u64], rounds: u32, s: &[u8], opening: bool, out: &mut [u8]) -> [u64; 16]
     requires { ⌜ IsRun (now run) × ((whole (now s) + 21 ≤ length (now run)) × ((length (now s) ≤ 65536) × (length (now s) ≤ length (now out)))) ⌝ }
     ensures { λ _. ⌜ now (out .exit) ≡ written opening rounds (take 16 (now (run .entry))) (now (s .entry)) ++ drop (length (now (s .entry))) (now (out .entry)) ⌝ }

@@ -1,5 +1,5 @@
 // The pass over a message's whole blocks, whose masks stand one word apart in a run: four in a turn, then
-// the last one, two or three. Sealing and opening have a loop of fours each.
+// up to three one by one. Sealing and opening have a loop of fours each.
 use crate::ones::pass_ones;
 use crate::opening::open_fours;
 use crate::sealing::seal_fours;
@@ -13,7 +13,7 @@ mod ones;
 mod opening;
 mod sealing;
 
-// The blocks but for the last one, two or three.
+// The blocks in fours, from the front.
 fn pass_fours(run: &[u64], rounds: u32, s: &[u8], opening: bool, out: &mut [u8]) -> [u64; 16]
     requires { ⌜ (whole (now s) + 17 ≤ length (now run)) × (length (now s) ≤ length (now out)) ⌝ }
     ensures { λ r. ⌜ Passed opening rounds (maskFrom 0 (now (run .entry))) (now (s .entry)) (4 * (length (now (s .entry)) / 512)) (now (out .entry)) (now (out .exit)) r (maskFrom 0 (now (run .entry)) (4 * (length (now (s .entry)) / 512))) ⌝ }

@@ -1,5 +1,5 @@
 // Four blocks under four masks that stand one word apart in a run. The masks' words are xored on the way
-// into the lanes and out of them: masks made ready before cost half as much again.
+// into the lanes and out of them, so that no mask is put together first.
 use crate::Four;
 use lanes::permute::back_permute4;
 use lanes::permute::permute4;

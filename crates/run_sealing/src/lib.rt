@@ -1,4 +1,4 @@
-// Seal and open from a run of words in a lent buffer: the checks in document 01's order, the run grown
+// Seal and open from a run of words in a lent buffer: the checks in order, the run grown
 // from the start, and then a mode.
 use answers::Answer;
 use answers::Check;

@@ -1,5 +1,5 @@
-// The sum over whole blocks, each enciphered under its mask out of a run: four in a turn, then the last
-// one, two or three.
+// The sum over whole blocks, each enciphered under its mask out of a run: four in a turn, then up to
+// three one by one.
 use mem::cipher::encipher;
 use quads::bytes::load4;
 use quads::bytes::sum4;
@@ -29,7 +29,7 @@ fn absorb_four(sum: [u64; 16], run: &[u64], n: usize, kind: u32, rounds: u32, s:
     sum4(sum, made)
 }
 
-// The sum over the blocks of s, but for the last one, two or three.
+// The sum over the blocks of s in fours, from the front.
 fn absorb_fours(run: &[u64], kind: u32, rounds: u32, s: &[u8]) -> [u64; 16]
     requires { ⌜ (whole (now s) + 17 ≤ length (now run)) × (kind < 3) ⌝ }
     ensures { λ r. ⌜ r ≡ xorOver (madeAt (under false rounds (maskFrom kind (now (run .entry)))) (now (s .entry))) (4 * (length (now (s .entry)) / 512)) ⌝ }

@@ -1,14 +1,16 @@
-// Masks out of a run. Each names how many neighbours are xored to a word: none after alpha steps alone,
-// one with a beta step, two with a gamma step.
+// Masks out of a run. A mask's kind is how many neighbours are xored to each of its words: none after
+// alpha steps alone, one with a beta step, two with a gamma step.
 use words::block::xor;
 ghost use mathlib.Core.Path.{_≡_};
 ghost use Prim.Native.Nat.{_<_, _≤_, _+_};
-ghost use lib.ListN.{length, take};
-ghost use Rattle.words.specs.Sequence.{tab};
+ghost use lib.ListN.{length, drop};
+ghost use mathlib.Core.List.{_++_};
+ghost use Rattle.words.specs.Sequence.{tab, zeros};
 ghost use Rattle.words.specs.Block.{xorBlock};
 ghost use Rattle.masks.specs.Run.{neighbours, maskFrom};
 
-// One word of a mask. Its callers write the kind as a number, so that the compiler leaves one case.
+// One word of a mask. The outermost callers write the kind as a number: once all is inlined, one case is
+// left.
 pub fn mask_word(run: &[u64], t: usize, kind: u32) -> u64
     requires { ⌜ (t + 2 < length (now run)) × (kind < 3) ⌝ }
     ensures { λ r. ⌜ r ≡ neighbours kind (now (run .entry)) t ⌝ }
@@ -36,14 +38,14 @@ pub fn mask_at(run: &[u64], n: usize, kind: u32) -> [u64; 16]
     mask
 }
 
-// Room for the gamma words of the longest message's masks: 512 blocks and 16 words behind them, and
-// five that no mask needs, so that it is as long as the longest run.
-pub const MOST: usize = 533;
+// Room for the words of the gamma masks of the longest message, 512 blocks.
+const MOST: usize = 533;
 
-// The words of the gamma masks, so many as asked for: each word of the run with its two neighbours.
+// The words of the gamma masks, so many as asked for, and zeros: each word of the run with its two
+// neighbours.
 pub fn gammas(run: &[u64], count: usize) -> [u64; MOST]
     requires { ⌜ (count + 2 ≤ length (now run)) × (count ≤ 533) ⌝ }
-    ensures { λ r. ⌜ (length r ≡ 533) × (take count r ≡ tab (neighbours 2 (now (run .entry))) count) ⌝ }
+    ensures { λ r. ⌜ r ≡ tab (neighbours 2 (now (run .entry))) count ++ drop count (zeros 533) ⌝ }
 {
     let mut made: [u64; MOST] = [0; MOST];
     let mut i: usize = 0;
@@ -54,7 +56,7 @@ pub fn gammas(run: &[u64], count: usize) -> [u64; MOST]
     made
 }
 
-// The mask a beta step on from the one at word n: each mask xor the one a word on.
+// The mask a beta step on from the one at word n: that mask xor the one a word on.
 pub fn beta_of(run: &[u64], n: usize, kind: u32) -> [u64; 16]
     requires { ⌜ (n + 19 ≤ length (now run)) × (kind < 3) ⌝ }
     ensures { λ r. ⌜ r ≡ xorBlock (maskFrom kind (now (run .entry)) (n + 1)) (maskFrom kind (now (run .entry)) n) ⌝ }

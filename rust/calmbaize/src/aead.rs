@@ -247,7 +247,7 @@ impl Aead {
     }
 
     /// Opens as [`open`](Self::open) does, with all masks from one run of words, as
-    /// [`seal_run`](Self::seal_run) does. Both open the same parcels.
+    /// [`seal_run`](Self::seal_run) does. It opens the parcels that [`open`](Self::open) opens.
     ///
     /// The first [`run_words`]`(header.0.len(), parcel.len() - TAG_LEN)` of `words` hold the run then,
     /// and the rest is unchanged. What `words` held before does not matter. The masks are as secret as

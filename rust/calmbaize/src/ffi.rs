@@ -1,6 +1,7 @@
 //! The C interface as `calmbaize.h` declares it.
 //!
 //! Pointers may be null where the length is 0. What a call writes must not overlap another buffer.
+//! Words are counted as such, and aligned as `u64` is.
 
 use crate::Refusal;
 

@@ -26,7 +26,7 @@ slice-aggregate-pass-blocks c = search needs
 
 pass-blocks-requires : tie.Need-pass-blocks-requires
 unfolding whole
-pass-blocks-requires c κs = (omega (arith, c .before .before .gammas .ensures .0), omega arith)
+pass-blocks-requires c κs = (omega arith, omega arith)
 
 mul-at : tie.Need-mul-at
 mul-at c = search needs
@@ -44,7 +44,7 @@ returns c =
     let block : Block (take 16 w) = first-block w (is .long) (λ i. c .before .before .before .before .before .before .before .before .before .shared-slice-known .given i .fits) in
     let s = now (a .s) in
     let bytes : Bytes s = record { bytes = λ i. c .before .before .before .before .before .before .before .before .shared-slice-known2 .given i .fits } in
-    let blocks = blocks-from-run w is block s (start .pre .1 .0) _ (c .before .before .before .before .before .before .gammas .ensures .1) (a .opening) (a .rounds) (c .before .before .before .pass-blocks .ensures) in
+    let blocks = blocks-from-run w is block s (start .pre .1 .0) _ _ (c .before .before .before .before .before .before .gammas .ensures) (a .opening) (a .rounds) (c .before .before .before .pass-blocks .ensures) in
     let all = all-whole (a .rounds) (take 16 w) s block bytes (a .opening) (now (a .out)) _ _ _ blocks (omega arith) in
     (all .all-written, all .all-checked)
 
@@ -87,10 +87,10 @@ returns-2 c =
     let s = now (a .s) in
     let bytes : Bytes s = record { bytes = λ i. c .before .before .before .before .before .before .before .before .before .before .before .before .before .before .shared-slice-known2 .given i .fits } in
     let room = start .pre .1 .0 in
-    let made = c .before .before .before .before .before .before .before .before .before .before .before .before .gammas .ensures .1 in
-    let blocks = blocks-from-run w is block s room _ made (a .opening) (a .rounds) (c .before .before .before .before .before .before .before .before .before .pass-blocks .ensures) in
+    let made = c .before .before .before .before .before .before .before .before .before .before .before .before .gammas .ensures in
+    let blocks = blocks-from-run w is block s room _ _ made (a .opening) (a .rounds) (c .before .before .before .before .before .before .before .before .before .pass-blocks .ensures) in
     let q : 128 * whole s ≡ length s → ⊥ = λ e. c .before .before .before .before .before .before .if1 .left (omega arith) in
-    let mask = left-mask w is block s room _ made _ (c .before .before .before .before .before .beta-of .ensures) in
+    let mask = left-mask w is block s room _ _ made _ (c .before .before .before .before .before .beta-of .ensures) in
     let rest = rw (tailPart (128 * whole s) s, mask) at (c .before .before .pass-leftover-under .ensures) in
     let all = all-left (a .rounds) (take 16 w) s block bytes (a .opening) (now (a .out)) _ _ _ blocks _ _ _ q (rest .0) (rest .1) mask in
     (all .all-written, all .all-checked)
