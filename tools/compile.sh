@@ -16,11 +16,12 @@ case " $* " in
 *) exec "$bin/clang" "$@" ;;
 esac
 
-# The permutation has several callers, so that by itself the compiler leaves a call for each block; and
-# where a pass over a message is left as a call, its buffers come through memory, which costs a tenth.
-inlining=(-mllvm -inline-threshold=30000)
-# By itself the vectoriser goes less deep than a round is, and counts a rotation as too dear.
-vectorising=(-mllvm -slp-recursion-max-depth=100 -mllvm -slp-threshold=-3000 -mllvm -slp-vectorize-hor=false)
+# The permutation has several callers, so that by itself the compiler leaves a call for each block.
+inlining=(-mllvm -inline-threshold=3000)
+# Where a pass over a message is left as a call, its buffers come through memory, which costs a tenth. By
+# itself the vectoriser goes less deep than a round is, and counts a rotation as too dear.
+vectorising=(-mllvm -inline-threshold=30000 -mllvm -slp-recursion-max-depth=100
+    -mllvm -slp-threshold=-3000 -mllvm -slp-vectorize-hor=false)
 # The calls that work on four blocks in a turn.
 run='@calmbaize_(seal|open)_run\('
 
@@ -40,7 +41,7 @@ trap 'rm -rf "$work"' EXIT
 # compile SED-SCRIPT OBJECT OPTIONS...: the program as the script changes it.
 compile() {
     sed -E "$1" "$work/program.ll" >"$2.ll"
-    "$bin/clang" "${words[@]}" -x ir "$2.ll" -o "$2" "${inlining[@]}" "${@:3}"
+    "$bin/clang" "${words[@]}" -x ir "$2.ll" -o "$2" "${@:3}"
 }
 
 # inside LINES: the script by which the exported functions that are defined on such lines are no longer
@@ -49,19 +50,16 @@ inside() {
     echo "/^define (internal|private) /b; $1s/^define /&internal /"
 }
 
-# At x86-64 vectorising helps where four blocks are side by side, and spoils the code for one block: so
-# each kind is compiled by itself.
-baseline() {
-    compile "$(inside "/$run/")" "$work/steps.o" &
-    compile "$(inside "/$run/!")" "$work/run.o" "${vectorising[@]}"
-    wait $!
-    "$bin/ld.lld" -r "$work/steps.o" "$work/run.o" -o "$object"
-}
-
-# Each function says for which processor it is, which -march alone leaves as it is.
-wide() {
-    compile 's/"target-cpu"="x86-64"/"target-cpu"="x86-64-v3"/' "$work/wide.o" -march=x86-64-v3 "${vectorising[@]}"
-    mv "$work/wide.o" "$object"
-}
-
-"$kind"
+# Vectorising helps where four blocks are side by side, and elsewhere it spoils the code: one block takes
+# twice the time, and a branch on a secret comes up. So the run calls are compiled by themselves, and all
+# others alike for both archives.
+case $kind in
+baseline) processor='' && options=() ;;
+# Each function says for which processor it is, which -march alone leaves as it is. By itself the compiler
+# keeps the stack aligned to 16 bytes, and a vector of 32 that lies across two pages costs OPP a third.
+wide) processor='s/"target-cpu"="x86-64"/"target-cpu"="x86-64-v3" "stackrealign"/' && options=(-march=x86-64-v3) ;;
+esac
+compile "$(inside "/$run/")" "$work/steps.o" "${inlining[@]}" &
+compile "$processor; $(inside "/$run/!")" "$work/run.o" "${vectorising[@]}" "${options[@]}"
+wait $!
+"$bin/ld.lld" -r "$work/steps.o" "$work/run.o" -o "$object"
