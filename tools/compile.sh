@@ -56,7 +56,7 @@ inside() {
 case $kind in
 baseline) processor='' && options=() ;;
 # Each function says for which processor it is, which -march alone leaves as it is. By itself the compiler
-# keeps the stack aligned to 16 bytes, and a vector of 32 that lies across two pages costs OPP a third.
+# keeps the stack aligned to 16 bytes, and with vectors of 32 OPP was a third slower at some places of it.
 wide) processor='s/"target-cpu"="x86-64"/"target-cpu"="x86-64-v3" "stackrealign"/' && options=(-march=x86-64-v3) ;;
 esac
 compile "$(inside "/$run/")" "$work/steps.o" "${inlining[@]}" &
