@@ -12,6 +12,9 @@ ghost use Rattle.blockplan.specs.Plan.{whole};
 ghost use Rattle.opp.specs.Opp.{oppCheck};
 ghost use Rattle.opp.specs.Pass.{written, plain};
 
+// Room for the words of the gamma masks of the longest message: one for each of 512 blocks, and 17.
+const MOST: usize = 529;
+
 // All bytes; what comes back is the check over the plain ones. The words of the gamma masks are made once
 // from the run, since each stands in up to sixteen masks.
 pub fn pass(run: &[u64], rounds: u32, s: &[u8], opening: bool, out: &mut [u8]) -> [u64; 16]
@@ -20,7 +23,8 @@ pub fn pass(run: &[u64], rounds: u32, s: &[u8], opening: bool, out: &mut [u8]) -
     ensures { λ r. ⌜ r ≡ oppCheck (plain opening rounds (take 16 (now (run .entry))) (now (s .entry))) ⌝ }
 {
     let m = s.len() / 128;
-    let masks = gammas(run, m + 16);
+    let mut masks: [u64; MOST] = [0; MOST];
+    gammas(run, m + 16, &mut masks);
     let sum = pass_blocks(&masks, rounds, s, opening, out);
     let at = 128 * m;
     if at == s.len() {

@@ -5,7 +5,7 @@ ghost use mathlib.Core.Path.{_≡_};
 ghost use Prim.Native.Nat.{_<_, _≤_, _+_};
 ghost use lib.ListN.{length, drop};
 ghost use mathlib.Core.List.{_++_};
-ghost use Rattle.words.specs.Sequence.{tab, zeros};
+ghost use Rattle.words.specs.Sequence.{tab};
 ghost use Rattle.words.specs.Block.{xorBlock};
 ghost use Rattle.masks.specs.Run.{neighbours, maskFrom};
 
@@ -38,22 +38,18 @@ pub fn mask_at(run: &[u64], n: usize, kind: u32) -> [u64; 16]
     mask
 }
 
-// Room for the words of the gamma masks of the longest message, 512 blocks.
-const MOST: usize = 533;
-
-// The words of the gamma masks, so many as asked for, and zeros: each word of the run with its two
-// neighbours.
-pub fn gammas(run: &[u64], count: usize) -> [u64; MOST]
-    requires { ⌜ (count + 2 ≤ length (now run)) × (count ≤ 533) ⌝ }
-    ensures { λ r. ⌜ r ≡ tab (neighbours 2 (now (run .entry))) count ++ drop count (zeros 533) ⌝ }
+// The words of the gamma masks, so many as asked for, to the front of a buffer: each word of the run with
+// its two neighbours.
+pub fn gammas(run: &[u64], count: usize, masks: &mut [u64])
+    requires { ⌜ (count + 2 ≤ length (now run)) × (count ≤ length (now masks)) ⌝ }
+    ensures { λ _. ⌜ now (masks .exit) ≡ tab (neighbours 2 (now (run .entry))) count ++ drop count (now (masks .entry)) ⌝ }
 {
-    let mut made: [u64; MOST] = [0; MOST];
     let mut i: usize = 0;
     while i < count {
-        made[i] = mask_word(run, i, 2);
+        let word = mask_word(run, i, 2);
+        masks[i] = word;
         i += 1;
     }
-    made
 }
 
 // The mask a beta step on from the one at word n: that mask xor the one a word on.

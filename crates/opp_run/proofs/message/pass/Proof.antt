@@ -17,6 +17,9 @@ use Rattle.opp_run.proofs.message.pass.Tie as tie
 add-gammas : tie.Need-add-gammas
 add-gammas c = search needs
 
+slice-aggregate-gammas : tie.Need-slice-aggregate-gammas
+slice-aggregate-gammas c = search needs
+
 gammas-requires : tie.Need-gammas-requires
 unfolding whole
 gammas-requires c κs = (omega arith, omega arith)
@@ -37,14 +40,14 @@ same-length c = search needs
 returns : tie.Need-returns
 unfolding whole
 returns c =
-    let start = c .before .before .before .before .before .before .before .before .before .before in
+    let start = c .before .before .before .before .before .before .before .before .before .before .before .before in
     let a = start .args in
     let w = now (a .run) in
     let is = start .pre .0 in
-    let block : Block (take 16 w) = first-block w (is .long) (λ i. c .before .before .before .before .before .before .before .before .before .shared-slice-known .given i .fits) in
+    let block : Block (take 16 w) = first-block w (is .long) (λ i. c .before .before .before .before .before .before .before .before .before .before .before .shared-slice-known .given i .fits) in
     let s = now (a .s) in
-    let bytes : Bytes s = record { bytes = λ i. c .before .before .before .before .before .before .before .before .shared-slice-known2 .given i .fits } in
-    let blocks = blocks-from-run w is block s (start .pre .1 .0) _ _ (c .before .before .before .before .before .before .gammas .ensures) (a .opening) (a .rounds) (c .before .before .before .pass-blocks .ensures) in
+    let bytes : Bytes s = record { bytes = λ i. c .before .before .before .before .before .before .before .before .before .before .shared-slice-known2 .given i .fits } in
+    let blocks = blocks-from-run w is block s (start .pre .1 .0) _ _ (c .before .before .before .before .before .before .before .gammas .ensures) (a .opening) (a .rounds) (c .before .before .before .pass-blocks .ensures) in
     let all = all-whole (a .rounds) (take 16 w) s block bytes (a .opening) (now (a .out)) _ _ _ blocks (omega arith) in
     (all .all-written, all .all-checked)
 
@@ -79,15 +82,15 @@ same-length-2 c = search needs
 returns-2 : tie.Need-returns-2
 unfolding whole left
 returns-2 c =
-    let start = c .before .before .before .before .before .before .before .before .before .before .before .before .before .before .before .before in
+    let start = c .before .before .before .before .before .before .before .before .before .before .before .before .before .before .before .before .before .before in
     let a = start .args in
     let w = now (a .run) in
     let is = start .pre .0 in
-    let block : Block (take 16 w) = first-block w (is .long) (λ i. c .before .before .before .before .before .before .before .before .before .before .before .before .before .before .before .shared-slice-known .given i .fits) in
+    let block : Block (take 16 w) = first-block w (is .long) (λ i. c .before .before .before .before .before .before .before .before .before .before .before .before .before .before .before .before .before .shared-slice-known .given i .fits) in
     let s = now (a .s) in
-    let bytes : Bytes s = record { bytes = λ i. c .before .before .before .before .before .before .before .before .before .before .before .before .before .before .shared-slice-known2 .given i .fits } in
+    let bytes : Bytes s = record { bytes = λ i. c .before .before .before .before .before .before .before .before .before .before .before .before .before .before .before .before .shared-slice-known2 .given i .fits } in
     let room = start .pre .1 .0 in
-    let made = c .before .before .before .before .before .before .before .before .before .before .before .before .gammas .ensures in
+    let made = c .before .before .before .before .before .before .before .before .before .before .before .before .before .gammas .ensures in
     let blocks = blocks-from-run w is block s room _ _ made (a .opening) (a .rounds) (c .before .before .before .before .before .before .before .before .before .pass-blocks .ensures) in
     let q : 128 * whole s ≡ length s → ⊥ = λ e. c .before .before .before .before .before .before .if1 .left (omega arith) in
     let mask = left-mask w is block s room _ _ made _ (c .before .before .before .before .before .beta-of .ensures) in
@@ -100,6 +103,7 @@ pass-spec =
     tie.close
     (tie.spec
     add-gammas
+    slice-aggregate-gammas
     gammas-requires
     slice-aggregate-pass-blocks
     pass-blocks-requires
