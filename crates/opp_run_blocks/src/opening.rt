@@ -1,8 +1,11 @@
 // Four blocks opened in a turn.
+use lanes::permute::back_permute4;
 use quads::bytes::load4;
 use quads::bytes::store4;
 use quads::bytes::sum4;
-use quads::masked::decipher4;
+use quads::masked::gather;
+use quads::spreading::mask_lanes;
+use quads::spreading::spread;
 use words::block::zero;
 ghost use mathlib.Core.Bool.{true};
 ghost use Prim.Native.Nat.{_≤_, _+_, _*_, _/_};
@@ -26,7 +29,10 @@ fn open_four(
     ensures { λ r. ⌜ MorePassed true rounds (fromRun 0 (now (run .entry)) n) (now (s .entry)) 4 (now (out .entry)) (now (out .exit)) sum r ⌝ }
 {
     let given = load4(s);
-    let made = decipher4(given, run, n, 0, rounds);
+    let mut w = spread(given);
+    mask_lanes(&mut w, run, n);
+    back_permute4(&mut w, rounds);
+    let made = gather(w, run, n, 0);
     store4(made, out);
     sum4(sum, made)
 }

@@ -1,8 +1,10 @@
 // Four blocks sealed in a turn.
+use lanes::permute::permute4;
 use quads::bytes::load4;
 use quads::bytes::store4;
-use quads::bytes::sum4;
-use quads::masked::encipher4;
+use quads::masked::gather;
+use quads::spreading::mask_lanes;
+use quads::spreading::spread_summed;
 use words::block::zero;
 ghost use mathlib.Core.Bool.{false};
 ghost use Prim.Native.Nat.{_≤_, _+_, _*_, _/_};
@@ -14,7 +16,7 @@ ghost use Rattle.quads.specs.Quads.{fromRun};
 ghost use Rattle.opp_run_blocks.specs.More.{MorePassed};
 
 // The first four blocks of s under the masks at words n to n + 3, and the blocks themselves into the
-// check. Reading them again for it is cheaper than keeping their words while P runs.
+// check.
 fn seal_four(
     sum: [u64; 16],
     run: &[u64],
@@ -27,10 +29,13 @@ fn seal_four(
     ensures { λ r. ⌜ MorePassed false rounds (fromRun 0 (now (run .entry)) n) (now (s .entry)) 4 (now (out .entry)) (now (out .exit)) sum r ⌝ }
 {
     let given = load4(s);
-    let made = encipher4(given, run, n, 0, rounds);
+    let put = spread_summed(sum, given);
+    let mut w = put.lanes;
+    mask_lanes(&mut w, run, n);
+    permute4(&mut w, rounds);
+    let made = gather(w, run, n, 0);
     store4(made, out);
-    let again = load4(s);
-    sum4(sum, again)
+    put.sum
 }
 
 // The blocks in fours, from the front.

@@ -79,6 +79,24 @@ pub xor-tab : (s : List ℕ) (f : ℕ → ℕ) → tab (λ i. bitXor (getD s i 0
 unfolding xorBlock xorAt
 xor-tab s f = tab-ext (λ i. bitXor (getD s i 0) (f i)) (xorAt s (tab f 16)) 16 (λ i h. ap (bitXor (getD s i 0)) (sym (getD-tab f 16 i h)))
 
+-- and the other way round
+tab-xor : (f : ℕ → ℕ) (s : List ℕ) → tab (λ i. bitXor (f i) (getD s i 0)) 16 ≡ xorBlock (tab f 16) s
+unfolding xorBlock xorAt
+tab-xor f s = tab-ext (λ i. bitXor (f i) (getD s i 0)) (xorAt (tab f 16) s) 16 (λ i h. ap (λ (x : ℕ). bitXor x (getD s i 0)) (sym (getD-tab f 16 i h)))
+
+-- four blocks into a sum, word by word
+abbrev pub summedAt : List ℕ → Four → ℕ → ℕ
+summedAt sum f i = bitXor (bitXor (bitXor (bitXor (getD sum i 0) (getD (f .a) i 0)) (getD (f .b) i 0)) (getD (f .c) i 0)) (getD (f .d) i 0)
+
+pub sum-tab : (sum : List ℕ) (f : Four) → tab (summedAt sum f) 16 ≡ fold (λ m t. xorBlock t (nth f m)) sum 4
+unfolding fold nth xorBlock xorAt
+sum-tab sum f =
+    tab-xor (λ i. bitXor (bitXor (bitXor (getD sum i 0) (getD (f .a) i 0)) (getD (f .b) i 0)) (getD (f .c) i 0)) (f .d)
+    ∙ ap (λ (t : List ℕ). xorBlock t (f .d)) (
+    tab-xor (λ i. bitXor (bitXor (getD sum i 0) (getD (f .a) i 0)) (getD (f .b) i 0)) (f .c)
+    ∙ ap (λ (t : List ℕ). xorBlock t (f .c)) (tab-xor (λ i. bitXor (getD sum i 0) (getD (f .a) i 0)) (f .b))
+    )
+
 pub xor-lane : (w : List ℕ) (m : ℕ) (f : ℕ → ℕ) → tab (λ i. bitXor (getD w (4 * i + m) 0) (f i)) 16 ≡ xorBlock (lane w m) (tab f 16)
 xor-lane w m f =
     tab-ext (λ i. bitXor (getD w (4 * i + m) 0) (f i)) (λ i. bitXor (getD (lane w m) i 0) (f i)) 16 (λ i h. ap (λ (x : ℕ). bitXor x (f i)) (sym (getD-lane w m i h)))

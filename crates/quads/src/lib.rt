@@ -2,6 +2,7 @@
 pub mod bytes;
 pub mod masked;
 pub mod one_mask;
+pub mod spreading;
 
 // Four blocks.
 pub struct Four {

@@ -1,7 +1,6 @@
 // Four blocks under four masks that stand one word apart in a run. The masks' words are xored on the way
 // into the lanes and out of them, so that no mask is put together first.
 use crate::Four;
-use lanes::permute::back_permute4;
 use lanes::permute::permute4;
 use runs::windows::mask_word;
 ghost use mathlib.Core.Path.{_≡_};
@@ -9,12 +8,12 @@ ghost use Prim.Native.Nat.{_≤_, _<_, _+_};
 ghost use lib.ListN.{length};
 ghost use Rattle.words.specs.Block.{xorBlock};
 ghost use Rattle.masks.specs.Run.{maskFrom};
-ghost use Rattle.mem.specs.Mem.{encipher, decipher};
+ghost use Rattle.mem.specs.Mem.{encipher};
 ghost use Rattle.lanes.specs.Lanes.{lane};
 ghost use Rattle.quads.specs.Quads.{nth, FourAre, Spread};
 
 // The blocks xor their masks, word by word into four lanes.
-fn spread(f: Four, run: &[u64], n: usize, kind: u32) -> [u64; 64]
+fn spread_masked(f: Four, run: &[u64], n: usize, kind: u32) -> [u64; 64]
     requires { ⌜ (n + 21 ≤ length (now run)) × (kind < 3) ⌝ }
     ensures { λ r. ⌜ Spread r (λ m. xorBlock (nth f m) (maskFrom kind (now (run .entry)) (n + m))) ⌝ }
 {
@@ -31,7 +30,7 @@ fn spread(f: Four, run: &[u64], n: usize, kind: u32) -> [u64; 64]
 }
 
 // The lanes xor their masks, as four blocks.
-fn gather(w: [u64; 64], run: &[u64], n: usize, kind: u32) -> Four
+pub fn gather(w: [u64; 64], run: &[u64], n: usize, kind: u32) -> Four
     requires { ⌜ (n + 21 ≤ length (now run)) × (kind < 3) ⌝ }
     ensures { λ r. ⌜ FourAre r (λ m. xorBlock (lane w m) (maskFrom kind (now (run .entry)) (n + m))) ⌝ }
 {
@@ -55,17 +54,7 @@ pub fn encipher4(f: Four, run: &[u64], n: usize, kind: u32, rounds: u32) -> Four
     requires { ⌜ (n + 21 ≤ length (now run)) × (kind < 3) ⌝ }
     ensures { λ r. ⌜ FourAre r (λ m. encipher rounds (maskFrom kind (now (run .entry)) (n + m)) (nth f m)) ⌝ }
 {
-    let mut w = spread(f, run, n, kind);
+    let mut w = spread_masked(f, run, n, kind);
     permute4(&mut w, rounds);
-    gather(w, run, n, kind)
-}
-
-// D of four blocks, under the same masks.
-pub fn decipher4(f: Four, run: &[u64], n: usize, kind: u32, rounds: u32) -> Four
-    requires { ⌜ (n + 21 ≤ length (now run)) × (kind < 3) ⌝ }
-    ensures { λ r. ⌜ FourAre r (λ m. decipher rounds (maskFrom kind (now (run .entry)) (n + m)) (nth f m)) ⌝ }
-{
-    let mut w = spread(f, run, n, kind);
-    back_permute4(&mut w, rounds);
     gather(w, run, n, kind)
 }

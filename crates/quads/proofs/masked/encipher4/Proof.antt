@@ -11,8 +11,8 @@ use borrow.Author.Needs.{needs}
 use Rattle.quads.proofs.masked.encipher4.Statement.{statement}
 use Rattle.quads.proofs.masked.encipher4.Tie as tie
 
-spread-requires : tie.Need-spread-requires
-spread-requires c κs = search needs
+spread-masked-requires : tie.Need-spread-masked-requires
+spread-masked-requires c κs = search needs
 
 permute4-requires : tie.Need-permute4-requires
 permute4-requires c κs = search needs
@@ -26,8 +26,8 @@ returns c =
     let a = c .before .before .before .before .before .args in record {
       each = λ m h.
           c .gather .ensures .each m h
-          ∙ ap (λ (s : List ℕ). xorBlock s (maskFrom (a .kind) (now (a .run)) (a .n + m))) (c .before .permute4 .ensures .each m h ∙ ap (perm (a .rounds)) (c .before .before .before .spread .ensures .each m h));
+          ∙ ap (λ (s : List ℕ). xorBlock s (maskFrom (a .kind) (now (a .run)) (a .n + m))) (c .before .permute4 .ensures .each m h ∙ ap (perm (a .rounds)) (c .before .before .before .spread-masked .ensures .each m h));
     }
 
 pub encipher4-spec : {M : Type 1} → statement M
-encipher4-spec = tie.close (tie.spec spread-requires permute4-requires gather-requires returns)
+encipher4-spec = tie.close (tie.spec spread-masked-requires permute4-requires gather-requires returns)

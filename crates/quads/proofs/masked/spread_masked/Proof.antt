@@ -11,8 +11,8 @@ use Rattle.quads.specs.declared.Four.{Four}
 use Rattle.quads.specs.Quads.{nth}
 use Rattle.quads.proofs.Laws.{Spreading, spreading-none, spreading-more, spreading-done, word-moved, xor-tab}
 use borrow.Author.Needs.{needs}
-use Rattle.quads.proofs.masked.spread.Statement.{statement}
-use Rattle.quads.proofs.masked.spread.Tie as tie
+use Rattle.quads.proofs.masked.spread_masked.Statement.{statement}
+use Rattle.quads.proofs.masked.spread_masked.Tie as tie
 
 -- word i of block m xor its mask
 abbrev masked : Four → ℕ → List ℕ → ℕ → ℕ → ℕ → ℕ
@@ -161,8 +161,8 @@ returns c =
       each = λ m h. spreading-done (at .inv) (omega arith) m h ∙ xor-tab (nth (a .t1) m) (λ i. neighbours (a .kind) (now (a .run)) (a .n + m + i));
     }
 
-pub spread-spec : {M : Type 1} → statement M
-spread-spec =
+pub spread-masked-spec : {M : Type 1} → statement M
+spread-masked-spec =
     tie.close
     (tie.spec
     Inv-loop
