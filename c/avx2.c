@@ -6,8 +6,8 @@
 
 #include <immintrin.h>
 
-/* The longest message has 512 blocks. */
-enum { FOUR = 4 * BLOCK, LONGEST_RUN = 512 + WORDS };
+/* The longest message has 512 blocks, and their masks so many words. */
+enum { FOUR = 4 * BLOCK, MASK_WORDS = 512 + WORDS };
 
 /* Vectors of four words. */
 
@@ -149,21 +149,23 @@ static inline void add_to_sum(__m256i *sum, __m256i even, __m256i odd)
     *sum = xor4(*sum, xor4(even, odd));
 }
 
-static inline void load_four(__m256i s[WORDS], const uint64_t *run, const uint8_t *p, __m256i *sum)
+static inline void load_four(__m256i s[WORDS], const uint64_t *masks, const uint8_t *p,
+                             __m256i *sum)
 {
     for (int i = 0; i < WORDS; i += 2, p += 16) {
         __m256i even = load_halves(p), odd = load_halves(p + BLOCK);
         if (sum != NULL)
             add_to_sum(sum + i / 2, even, odd);
-        s[i] = xor4(_mm256_unpacklo_epi64(even, odd), load4(run + i));
-        s[i + 1] = xor4(_mm256_unpackhi_epi64(even, odd), load4(run + i + 1));
+        s[i] = xor4(_mm256_unpacklo_epi64(even, odd), load4(masks + i));
+        s[i + 1] = xor4(_mm256_unpackhi_epi64(even, odd), load4(masks + i + 1));
     }
 }
 
-static inline void store_four(uint8_t *p, const uint64_t *run, const __m256i s[WORDS], __m256i *sum)
+static inline void store_four(uint8_t *p, const uint64_t *masks, const __m256i s[WORDS],
+                              __m256i *sum)
 {
     for (int i = 0; i < WORDS; i += 2, p += 16) {
-        __m256i a = xor4(s[i], load4(run + i)), b = xor4(s[i + 1], load4(run + i + 1));
+        __m256i a = xor4(s[i], load4(masks + i)), b = xor4(s[i + 1], load4(masks + i + 1));
         __m256i even = _mm256_unpacklo_epi64(a, b), odd = _mm256_unpackhi_epi64(a, b);
         if (sum != NULL)
             add_to_sum(sum + i / 2, even, odd);
@@ -186,39 +188,50 @@ static inline void sum_halves(uint64_t check[WORDS], const __m256i sum[WORDS / 2
 
 /* Masks. */
 
-/*
- * The run that the alpha steps of first make: words n to n + 15 are the mask after n steps. So the
- * four words from n + i on are word i of the masks of four blocks.
- */
-static void grow4(uint64_t run[LONGEST_RUN], const uint64_t first[WORDS], size_t steps)
+/* The run of count words, as grow_run makes it, four words at a time. */
+static void grow4(uint64_t *words, size_t count, const uint64_t start[WORDS])
 {
-    __m256i a = load4(first), b = load4(first + 4), c = load4(first + 8), d = load4(first + 12);
+    __m256i a = load4(start), b = load4(start + 4), c = load4(start + 8), d = load4(start + 12);
+    size_t n = WORDS;
 
-    memcpy(run, first, BLOCK);
-    for (size_t n = 0; n < steps; n += 4) {
+    memcpy(words, start, BLOCK);
+    for (; n + 4 <= count; n += 4) {
         __m256i from_5 = _mm256_permute4x64_epi64(_mm256_blend_epi32(b, c, 0x03), 0x39);
         __m256i next = xor4(ror_bits(a, 11), _mm256_slli_epi64(from_5, 13));
-        store4(run + WORDS + n, next);
+        store4(words + n, next);
         a = b, b = c, c = d, d = next;
     }
+    /* No word behind the run is the call's to write. */
+    for (; n < count; n++)
+        words[n] = next_word(words + n - WORDS);
+}
+
+/*
+ * The words of the masks (i, 0, 1), made once, so that a word of a mask takes one load. Words n to
+ * n + 15 are the mask of block n, so the four from n + i on are word i of the masks of four blocks.
+ */
+static void gammas(uint64_t masks[MASK_WORDS], const uint64_t *words, size_t count)
+{
+    for (size_t n = 0; n < count; n++)
+        masks[n] = words[n] ^ words[n + 1] ^ words[n + 2];
 }
 
 /* OPP. */
 
-static inline void opp_four(int opening, uint32_t rounds, const uint64_t *run, const uint8_t *in,
+static inline void opp_four(int opening, uint32_t rounds, const uint64_t *masks, const uint8_t *in,
                             uint8_t *out, __m256i sum[WORDS / 2])
 {
     __m256i s[WORDS];
 
-    load_four(s, run, in, opening ? NULL : sum);
+    load_four(s, masks, in, opening ? NULL : sum);
     if (opening)
         unpermute4(rounds, s);
     else
         permute4(rounds, s);
-    store_four(out, run, s, opening ? sum : NULL);
+    store_four(out, masks, s, opening ? sum : NULL);
 }
 
-static inline void opp_one(int opening, uint32_t rounds, const uint64_t *run, const uint8_t *in,
+static inline void opp_one(int opening, uint32_t rounds, const uint64_t *masks, const uint8_t *in,
                            uint8_t *out, uint64_t check[WORDS])
 {
     uint64_t block[WORDS];
@@ -226,50 +239,68 @@ static inline void opp_one(int opening, uint32_t rounds, const uint64_t *run, co
     load(block, in);
     if (!opening) {
         xor_into(check, block);
-        encrypt(rounds, run, block);
+        encrypt(rounds, masks, block);
     } else {
-        decrypt(rounds, run, block);
+        decrypt(rounds, masks, block);
         xor_into(check, block);
     }
     store(out, block);
 }
 
-/* The run is of the masks (i, 0, 1) themselves, so that a word of a mask takes one load. */
-static inline void opp(int opening, uint32_t rounds, const uint64_t *run, const uint8_t *in,
+static inline void opp(int opening, uint32_t rounds, const uint64_t *masks, const uint8_t *in,
                        uint8_t *out, size_t len, uint64_t tag[WORDS])
 {
     __m256i sum[WORDS / 2] = {0};
     uint64_t m[WORDS], check[WORDS] = {0};
 
-    for (; len >= FOUR; len -= FOUR, in += FOUR, out += FOUR, run += 4)
-        opp_four(opening, rounds, run, in, out, sum);
+    for (; len >= FOUR; len -= FOUR, in += FOUR, out += FOUR, masks += 4)
+        opp_four(opening, rounds, masks, in, out, sum);
     sum_halves(check, sum);
-    for (; len >= BLOCK; len -= BLOCK, in += BLOCK, out += BLOCK, run++)
-        opp_one(opening, rounds, run, in, out, check);
-    memcpy(m, run, BLOCK);
+    for (; len >= BLOCK; len -= BLOCK, in += BLOCK, out += BLOCK, masks++)
+        opp_one(opening, rounds, masks, in, out, check);
+    memcpy(m, masks, BLOCK);
     opp_finish(rounds, m, in, out, len, opening, check);
     xor_into(tag, check);
 }
 
-/* Adds what the header gives to the tag, and makes the run for a message of len bytes. */
+/*
+ * Makes the run, adds what the header gives to the tag, and makes the masks for a message of len
+ * bytes.
+ */
 static void begin(uint32_t rounds, const uint8_t *key, const uint8_t *nonce, const uint8_t *header,
-                  size_t header_len, size_t len, uint64_t run[LONGEST_RUN], uint64_t tag[WORDS])
+                  size_t header_len, size_t len, uint64_t *words, uint64_t masks[MASK_WORDS],
+                  uint64_t tag[WORDS])
 {
-    uint64_t start[WORDS], m[WORDS];
+    uint64_t start[WORDS];
 
     start_block(0, start, rounds, key, nonce);
-    grow4(run, start, header_len / BLOCK);
-    absorb_run(OPP, rounds, run, ALPHA, header, header_len, tag);
-    mask_of(m, start, 0, 1);
-    grow4(run, m, len / BLOCK);
+    grow4(words, run_words(header_len, len), start);
+    absorb_run(OPP, rounds, words, ALPHA, header, header_len, tag);
+    gammas(masks, words, len / BLOCK + WORDS);
 }
 
-uint64_t avx2_opp_seal(uint32_t mode, uint32_t rounds, const uint8_t *key, size_t key_len,
-                       const uint8_t *nonce, size_t nonce_len, const uint8_t *header,
-                       size_t header_len, const uint8_t *input, size_t input_len, uint8_t *output,
-                       size_t output_len)
+/*
+ * What opening answers. A mask goes over all bytes of the message, whether the tag at given differs
+ * and they are cleared or not: in the library's call the tag decides no branch, and what that is
+ * measured against pays for the same. The mask is read back from memory, since a compiler that sees
+ * how it is made may make a branch of it.
+ */
+static uint64_t judged(const uint8_t *given, const uint64_t tag[4], uint8_t *output, size_t len)
 {
-    uint64_t run[LONGEST_RUN], tag[WORDS] = {0};
+    volatile uint64_t right = (uint64_t)tag_differs(given, tag) - 1;
+    uint64_t kept = right;
+
+    for (size_t n = 0; n < len; n++)
+        output[n] &= (uint8_t)kept;
+    return (len & kept) | (refuse(9, 0) & ~kept);
+}
+
+uint64_t avx2_opp_seal_run(uint32_t mode, uint32_t rounds, const uint8_t *key, size_t key_len,
+                           const uint8_t *nonce, size_t nonce_len, const uint8_t *header,
+                           size_t header_len, const uint8_t *input, size_t input_len,
+                           uint8_t *output, size_t output_len, uint64_t *words, size_t words_len)
+{
+    uint64_t masks[MASK_WORDS], tag[WORDS] = {0};
     uint64_t refusal =
         baseline_check_message(mode, rounds, key_len, nonce_len, header_len, input_len);
 
@@ -277,21 +308,21 @@ uint64_t avx2_opp_seal(uint32_t mode, uint32_t rounds, const uint8_t *key, size_
         return refuse(1, 0);
     if (refusal != 0)
         return refusal;
-    if (output_len < input_len + TAG)
+    if (output_len < input_len + TAG || words_len < run_words(header_len, input_len))
         return refuse(7, 0);
 
-    begin(rounds, key, nonce, header, header_len, input_len, run, tag);
-    opp(0, rounds, run, input, output, input_len, tag);
+    begin(rounds, key, nonce, header, header_len, input_len, words, masks, tag);
+    opp(0, rounds, masks, input, output, input_len, tag);
     store_tag(output + input_len, tag);
     return input_len + TAG;
 }
 
-uint64_t avx2_opp_open(uint32_t mode, uint32_t rounds, const uint8_t *key, size_t key_len,
-                       const uint8_t *nonce, size_t nonce_len, const uint8_t *header,
-                       size_t header_len, const uint8_t *input, size_t input_len, uint8_t *output,
-                       size_t output_len)
+uint64_t avx2_opp_open_run(uint32_t mode, uint32_t rounds, const uint8_t *key, size_t key_len,
+                           const uint8_t *nonce, size_t nonce_len, const uint8_t *header,
+                           size_t header_len, const uint8_t *input, size_t input_len,
+                           uint8_t *output, size_t output_len, uint64_t *words, size_t words_len)
 {
-    uint64_t run[LONGEST_RUN], tag[WORDS] = {0};
+    uint64_t masks[MASK_WORDS], tag[WORDS] = {0};
     uint64_t refusal =
         baseline_check_parcel(mode, rounds, key_len, nonce_len, header_len, input_len);
     size_t len = input_len - TAG;
@@ -300,12 +331,12 @@ uint64_t avx2_opp_open(uint32_t mode, uint32_t rounds, const uint8_t *key, size_
         return refuse(1, 0);
     if (refusal != 0)
         return refusal;
-    if (output_len < len)
+    if (output_len < len || words_len < run_words(header_len, len))
         return refuse(7, 0);
 
-    begin(rounds, key, nonce, header, header_len, len, run, tag);
-    opp(1, rounds, run, input, output, len, tag);
-    return opened(input + len, tag, output, len);
+    begin(rounds, key, nonce, header, header_len, len, words, masks, tag);
+    opp(1, rounds, masks, input, output, len, tag);
+    return judged(input + len, tag, output, len);
 }
 
 #endif

@@ -156,10 +156,10 @@ extern "C" {
         output_len: usize,
     ) -> u64;
 
-    /// Seals by AVX2, in OPP alone; the arguments are those of `calmbaize_seal`. The processor must
-    /// have AVX2.
+    /// Seals from a run of words by AVX2, in OPP alone; the arguments are those of
+    /// `calmbaize_seal_run`. The processor must have AVX2.
     #[cfg(target_arch = "x86_64")]
-    pub fn avx2_opp_seal(
+    pub fn avx2_opp_seal_run(
         mode: u32,
         rounds: u32,
         key: *const u8,
@@ -172,12 +172,14 @@ extern "C" {
         input_len: usize,
         output: *mut u8,
         output_len: usize,
+        words: *mut u64,
+        words_len: usize,
     ) -> u64;
 
-    /// Opens by AVX2, in OPP alone; the arguments are those of `calmbaize_open`. The processor must
-    /// have AVX2.
+    /// Opens from a run of words by AVX2, in OPP alone; the arguments are those of
+    /// `calmbaize_open_run`. The processor must have AVX2.
     #[cfg(target_arch = "x86_64")]
-    pub fn avx2_opp_open(
+    pub fn avx2_opp_open_run(
         mode: u32,
         rounds: u32,
         key: *const u8,
@@ -190,6 +192,46 @@ extern "C" {
         input_len: usize,
         output: *mut u8,
         output_len: usize,
+        words: *mut u64,
+        words_len: usize,
+    ) -> u64;
+
+    // The two by clang: `avx2_by_clang` hands them out.
+
+    #[cfg(clang)]
+    fn avx2_clang_opp_seal_run(
+        mode: u32,
+        rounds: u32,
+        key: *const u8,
+        key_len: usize,
+        nonce: *const u8,
+        nonce_len: usize,
+        header: *const u8,
+        header_len: usize,
+        input: *const u8,
+        input_len: usize,
+        output: *mut u8,
+        output_len: usize,
+        words: *mut u64,
+        words_len: usize,
+    ) -> u64;
+
+    #[cfg(clang)]
+    fn avx2_clang_opp_open_run(
+        mode: u32,
+        rounds: u32,
+        key: *const u8,
+        key_len: usize,
+        nonce: *const u8,
+        nonce_len: usize,
+        header: *const u8,
+        header_len: usize,
+        input: *const u8,
+        input_len: usize,
+        output: *mut u8,
+        output_len: usize,
+        words: *mut u64,
+        words_len: usize,
     ) -> u64;
 
     /// Walks; the arguments are those of `calmbaize_walk`.
@@ -255,4 +297,16 @@ extern "C" {
 
     /// The BLAKE2b permutation, any number of rounds.
     pub fn baseline_permute(rounds: u32, s: *mut [u64; 16]);
+}
+
+/// `avx2_opp_seal_run` and `avx2_opp_open_run` as clang compiles them, where there is a clang.
+#[cfg(clang)]
+pub fn avx2_by_clang() -> Option<(RunSealing, RunSealing)> {
+    Some((avx2_clang_opp_seal_run, avx2_clang_opp_open_run))
+}
+
+/// `avx2_opp_seal_run` and `avx2_opp_open_run` as clang compiles them: there is no clang.
+#[cfg(not(clang))]
+pub fn avx2_by_clang() -> Option<(RunSealing, RunSealing)> {
+    None
 }

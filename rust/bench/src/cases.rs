@@ -31,6 +31,8 @@ pub enum Implementation {
     ScalarCRun,
     /// OPP alone.
     Avx2C,
+    /// The same source, by clang.
+    Avx2Clang,
     Reference,
     XChaCha,
     AesGcm,
@@ -39,7 +41,8 @@ pub enum Implementation {
 impl Implementation {
     /// Whether it has the mode.
     pub fn has(self, setting: Setting) -> bool {
-        self != Self::Avx2C || setting.is_some_and(|(mode, _)| mode == OPP)
+        let in_opp_alone = matches!(self, Self::Avx2C | Self::Avx2Clang);
+        !in_opp_alone || setting.is_some_and(|(mode, _)| mode == OPP)
     }
 }
 
@@ -53,6 +56,7 @@ impl fmt::Display for Implementation {
             Self::ScalarC => "scalar C",
             Self::ScalarCRun => "scalar C, run",
             Self::Avx2C => "AVX2 C",
+            Self::Avx2Clang => "AVX2 C, clang",
             Self::Reference => "second implementation",
             Self::XChaCha => "XChaCha20-Poly1305",
             Self::AesGcm => "AES-256-GCM",

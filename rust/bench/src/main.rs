@@ -93,7 +93,7 @@ fn run(options: Options) -> Result<Vec<String>, String> {
     if sodium.is_none() {
         eprintln!("bench: no libsodium found: install libsodium-dev for its rows");
     }
-    if let Some(missing) = wide::missing() {
+    for missing in wide::all_missing() {
         eprintln!("bench: {missing}");
     }
     let batches = options.batches;

@@ -116,6 +116,7 @@ fn by_engines(samples: &Samples<Key>, mode: u32) -> Vec<Line> {
         (Implementation::WideRun, COLOURS[3], false),
         (Implementation::ScalarC, OTHERS[0], true),
         (Implementation::Avx2C, COLOURS[5], true),
+        (Implementation::Avx2Clang, COLOURS[6], true),
     ];
     let lines = shown.map(|(implementation, colour, dashed)| Line {
         name: implementation.to_string(),

@@ -175,7 +175,7 @@ pub struct EngineBound {
 }
 
 /// In every mode and round count that both have.
-pub const ENGINES: [EngineBound; 3] = [
+pub const ENGINES: [EngineBound; 4] = [
     EngineBound {
         implementation: Implementation::LibraryRun,
         by: Implementation::Library,
@@ -189,6 +189,11 @@ pub const ENGINES: [EngineBound; 3] = [
     EngineBound {
         implementation: Implementation::WideRun,
         by: Implementation::Avx2C,
+        most: 1.0,
+    },
+    EngineBound {
+        implementation: Implementation::WideRun,
+        by: Implementation::Avx2Clang,
         most: 1.0,
     },
 ];
@@ -214,9 +219,12 @@ impl EngineBound {
         })
     }
 
-    /// All of them. Where the archive for x86-64-v3 can't be measured, its bounds do not count.
+    /// All of them. Where the archive for x86-64-v3 can't be measured, its bounds do not count, nor
+    /// do those by clang where that is missing.
     fn ratios(&self, samples: &Samples<Key>) -> Vec<Ratio> {
-        if self.implementation == Implementation::WideRun && wide::missing().is_some() {
+        let no_wide = self.implementation == Implementation::WideRun && wide::missing().is_some();
+        let no_clang = self.by == Implementation::Avx2Clang && wide::clang_missing().is_some();
+        if no_wide || no_clang {
             return Vec::new();
         }
         engine_calls()
@@ -366,7 +374,7 @@ mod tests {
     }
 
     /// How many calls are above each bound of the engines where all take these times.
-    fn faults_of_engines(times: &[(Implementation, f64)]) -> [usize; 3] {
+    fn faults_of_engines(times: &[(Implementation, f64)]) -> [usize; 4] {
         let series = engine_calls().flat_map(|(setting, operation)| {
             times.iter().map(move |&(implementation, time)| {
                 let key = Key {
@@ -389,20 +397,38 @@ mod tests {
     #[test]
     fn engines_are_held_against_each_other_and_against_avx2() {
         let (both, opp) = (engine_calls().count(), engine_calls().count() / 2);
-        for (run, wide_run, avx2, faults) in [
-            (105.0, 55.0, 55.0, [0, 0, 0]),
-            (106.0, 55.0, 55.0, [both, 0, 0]),
-            (105.0, 56.0, 56.0, [0, both, 0]),
-            (105.0, 55.0, 54.0, [0, 0, opp]),
+        for (run, wide_run, [avx2, by_clang], faults) in [
+            (105.0, 55.0, [55.0, 55.0], [0, 0, 0, 0]),
+            (106.0, 55.0, [55.0, 55.0], [both, 0, 0, 0]),
+            (105.0, 56.0, [56.0, 56.0], [0, both, 0, 0]),
+            (105.0, 55.0, [54.0, 55.0], [0, 0, opp, 0]),
+            (105.0, 55.0, [55.0, 54.0], [0, 0, 0, opp]),
         ] {
             let times = [
                 (Implementation::Library, 100.0),
                 (Implementation::LibraryRun, run),
                 (Implementation::WideRun, wide_run),
                 (Implementation::Avx2C, avx2),
+                (Implementation::Avx2Clang, by_clang),
             ];
             assert_eq!(faults_of_engines(&times), faults, "{times:?}");
         }
-        assert_eq!(faults_of_engines(&[]), [both, both, opp]);
+        assert_eq!(faults_of_engines(&[]), [both, both, opp, opp]);
+    }
+
+    #[test]
+    fn bounds_by_avx2_count_where_both_can_be_measured() {
+        let nothing = Samples::made_up(Vec::new());
+        let faults = |by| {
+            let bounds = ENGINES.iter().filter(|bound| bound.by == by);
+            let ratios = bounds.flat_map(|bound| bound.ratios(&nothing));
+            ratios.filter_map(|ratio| ratio.fault()).count()
+        };
+        let wide = wide::missing().is_none();
+        let clang = baseline::avx2_by_clang().is_some();
+        let opp = engine_calls().count() / 2;
+        assert_eq!(faults(Implementation::Avx2C), if wide { opp } else { 0 });
+        let counted = if wide && clang { opp } else { 0 };
+        assert_eq!(faults(Implementation::Avx2Clang), counted);
     }
 }

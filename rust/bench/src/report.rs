@@ -10,7 +10,7 @@ use crate::table::{grouped, Table};
 use crate::wide;
 use std::fmt::Write;
 
-const CONSTRUCTION: [Implementation; 8] = [
+const CONSTRUCTION: [Implementation; 9] = [
     Implementation::Library,
     Implementation::LibraryRun,
     Implementation::Wide,
@@ -18,15 +18,17 @@ const CONSTRUCTION: [Implementation; 8] = [
     Implementation::ScalarC,
     Implementation::ScalarCRun,
     Implementation::Avx2C,
+    Implementation::Avx2Clang,
     Implementation::Reference,
 ];
 /// The engines on both archives, and what they are held against.
-const COMPARED: [Implementation; 5] = [
+const COMPARED: [Implementation; 6] = [
     Implementation::Library,
     Implementation::LibraryRun,
     Implementation::Wide,
     Implementation::WideRun,
     Implementation::Avx2C,
+    Implementation::Avx2Clang,
 ];
 const SODIUM: [Implementation; 2] = [Implementation::XChaCha, Implementation::AesGcm];
 
@@ -35,7 +37,10 @@ const ENGINES_TEXT: &str = "Calmbaize alone is the stepping engine, `calmbaize_s
     `calmbaize_open`, on the archive in `dist/`; x86-64-v3 is the archive in `dist/x86-64-v3/`. \
     \"run\" is the run engine, `calmbaize_seal_run` and `calmbaize_open_run`: each call grows its run \
     of words, and that is timed with it. The AVX2 C is OPP written by hand with intrinsics, four \
-    blocks side by side (`c/avx2.c`). The paper's figures are of its AVX2 code on Haswell.\n\n";
+    blocks side by side (`c/avx2.c`): its calls have the arguments of the run engine's, grow the same \
+    run, which is timed with them too, and leave it in the lent words. It is compiled by the system's C \
+    compiler, `CC` or `cc`, and once more by clang where there is one. The paper's figures are of its \
+    AVX2 code on Haswell.\n\n";
 
 /// What stands below the ratios of the engines.
 const ENGINE_BOUNDS: &str =
@@ -142,7 +147,7 @@ fn engines(page: &mut String, samples: &Samples<Key>) {
         &engine_ratios(samples),
     );
     page.push_str(ENGINE_BOUNDS);
-    if let Some(missing) = wide::missing() {
+    for missing in wide::all_missing() {
         write!(page, "Here {missing}.\n\n").expect("a string takes all");
     }
 }

@@ -37,14 +37,14 @@ impl SealOpen {
         if !wide::runs() {
             return Vec::new();
         }
-        vec![
+        let mut all = vec![
             #[cfg(wide)]
             Self::Foreign(Implementation::Wide, wide::wide_seal, wide::wide_open),
             #[cfg(target_arch = "x86_64")]
-            Self::Foreign(
+            Self::Run(
                 Implementation::Avx2C,
-                baseline::avx2_opp_seal,
-                baseline::avx2_opp_open,
+                baseline::avx2_opp_seal_run,
+                baseline::avx2_opp_open_run,
             ),
             #[cfg(wide)]
             Self::Run(
@@ -52,7 +52,10 @@ impl SealOpen {
                 wide::wide_seal_run,
                 wide::wide_open_run,
             ),
-        ]
+        ];
+        let by_clang = baseline::avx2_by_clang();
+        all.extend(by_clang.map(|(seal, open)| Self::Run(Implementation::Avx2Clang, seal, open)));
+        all
     }
 
     fn all_new() -> Vec<Self> {
@@ -234,37 +237,87 @@ fn second(
 #[cfg(all(test, target_arch = "x86_64"))]
 mod tests {
     use super::*;
-    use baseline::{avx2_opp_open, avx2_opp_seal, baseline_open, baseline_seal};
-    use reference::{MRO, OPP, ROUNDS};
+    use baseline::{baseline_open_run, baseline_seal_run};
+    use reference::{run_len, MRO, OPP, ROUNDS};
 
-    /// The answer of `call`, and the output of `room` bytes after it.
-    fn made(
-        call: Sealing,
-        (mode, rounds): (u32, u32),
-        header: &[u8],
-        input: &[u8],
-        room: usize,
-    ) -> (u64, Vec<u8>) {
-        let mut output = vec![0xee; room];
-        // SAFETY: each pointer is valid for its length, and the output overlaps nothing; the tests
-        // end before this where the processor has no AVX2.
-        let answer = unsafe {
-            call(
-                mode,
-                rounds,
-                KEY.as_ptr(),
-                KEY.len(),
-                NONCE.as_ptr(),
-                reference::NONCE_LEN,
-                header.as_ptr(),
-                header.len(),
-                input.as_ptr(),
-                input.len(),
-                output.as_mut_ptr(),
-                room,
-            )
+    /// By AVX2, as each compiler makes it: what seals and what opens. Nothing where the processor has
+    /// no AVX2.
+    fn by_avx2() -> Vec<(Implementation, RunSealing, RunSealing)> {
+        let calls = |each| match each {
+            SealOpen::Run(Implementation::WideRun, ..) => None,
+            SealOpen::Run(by, seal, open) => Some((by, seal, open)),
+            _ => None,
         };
-        (answer, output)
+        SealOpen::all_wide().into_iter().filter_map(calls).collect()
+    }
+
+    #[test]
+    fn avx2_is_measured_by_each_compiler() {
+        let compilers = 1 + usize::from(baseline::avx2_by_clang().is_some());
+        assert_eq!(by_avx2().len(), if wide::runs() { compilers } else { 0 });
+    }
+
+    /// So many words and bytes stand behind those that are lent: as many as the longest run has, so
+    /// that a call that goes too far is seen and does no harm.
+    const BEHIND: usize = 533;
+
+    /// The answer, and all bytes and words after the call, those behind too.
+    type Made = (u64, Vec<u8>, Vec<u64>);
+
+    /// What a call is given.
+    #[derive(Clone, Copy)]
+    struct Given<'a> {
+        settings: (u32, u32),
+        header: &'a [u8],
+        input: &'a [u8],
+        /// The output's bytes.
+        room: usize,
+        /// How many words are lent.
+        lent: usize,
+    }
+
+    impl Given<'_> {
+        /// What the call made.
+        fn made(self, call: RunSealing) -> Made {
+            let (mut output, mut words) = self.before();
+            // SAFETY: each pointer is valid for its length, and neither the output nor the words
+            // overlap anything; without AVX2 in the processor there is no such call.
+            let answer = unsafe {
+                call(
+                    self.settings.0,
+                    self.settings.1,
+                    KEY.as_ptr(),
+                    KEY.len(),
+                    NONCE.as_ptr(),
+                    reference::NONCE_LEN,
+                    self.header.as_ptr(),
+                    self.header.len(),
+                    self.input.as_ptr(),
+                    self.input.len(),
+                    output.as_mut_ptr(),
+                    self.room,
+                    words.as_mut_ptr(),
+                    self.lent,
+                )
+            };
+            (answer, output, words)
+        }
+
+        /// What the call made, which is what the scalar C makes: every byte and word.
+        fn same(self, by: Implementation, call: RunSealing, scalar: RunSealing) -> Made {
+            let made = self.made(call);
+            let (header, input) = (self.header.len(), self.input.len());
+            let case = (self.settings, header, input, self.room, self.lent);
+            assert!(made == self.made(scalar), "{by}, {case:?}");
+            made
+        }
+
+        /// The bytes and the words before a call: dirty, so that what is left as it was shows.
+        fn before(self) -> (Vec<u8>, Vec<u64>) {
+            let words = (1..).map(|i: u64| i.wrapping_mul(0x9e37_79b9_7f4a_7c15));
+            let output = vec![0xee; self.room + BEHIND];
+            (output, words.take(self.lent + BEHIND).collect())
+        }
     }
 
     /// Bytes of which no block is like another.
@@ -273,42 +326,55 @@ mod tests {
         bytes.collect()
     }
 
-    /// Sealed and opened the same by both, a parcel whose tag or whose last block differs refused.
-    fn same(settings: (u32, u32), header: &[u8], len: usize) {
+    /// Seals and opens, and opens a parcel whose tag or whose last block differs. The words behind the
+    /// run stay as they were.
+    fn seal_and_open(settings: (u32, u32), header: &[u8], len: usize, lent: usize) {
         let (message, room) = (bytes(len), len + 32);
-        let sealed = made(avx2_opp_seal, settings, header, &message, room);
-        let by_scalar = made(baseline_seal, settings, header, &message, room);
-        assert!(sealed == by_scalar, "{settings:?}, {len} bytes sealed");
-        let (_, mut parcel) = sealed;
-        for fault in [None, Some(room - 1), len.checked_sub(1)] {
-            if let Some(at) = fault {
-                parcel[at] ^= 1;
+        let sealing = Given {
+            settings,
+            header,
+            input: &message,
+            room,
+            lent,
+        };
+        let run = run_len(header.len(), len);
+        let (_, before) = sealing.before();
+        for (by, seal, open) in by_avx2() {
+            let (_, mut parcel, words) = sealing.same(by, seal, baseline_seal_run);
+            assert!(words[run..] == before[run..], "{by}, {len} bytes sealed");
+            for fault in [None, Some(room - 1), len.checked_sub(1)] {
+                if let Some(at) = fault {
+                    parcel[at] ^= 1;
+                }
+                let opening = Given {
+                    input: &parcel[..room],
+                    room: len,
+                    ..sealing
+                };
+                let (_, _, words) = opening.same(by, open, baseline_open_run);
+                assert!(words[run..] == before[run..], "{by}, {len} bytes opened");
             }
-            let opened = made(avx2_opp_open, settings, header, &parcel, len);
-            let by_scalar = made(baseline_open, settings, header, &parcel, len);
-            assert!(opened == by_scalar, "{settings:?}, {len} bytes opened");
         }
     }
 
     #[test]
     fn avx2_seals_and_opens_as_the_scalar_c_does() {
-        if !wide::runs() {
-            return;
-        }
         let header = bytes(4096);
         let lengths = (0..21).flat_map(|blocks| [0, 1, 127].map(|left| 128 * blocks + left));
         for len in lengths.chain([65_279, 65_280, 65_407, 65_408, 65_535, 65_536]) {
-            for &rounds in ROUNDS {
-                same((OPP, rounds), &header[..len % 4097], len);
+            for header in <[_; 2]>::from(header.split_at(len % 4097)) {
+                let run = run_len(header.len(), len);
+                for &rounds in ROUNDS {
+                    for lent in [run, run + 3] {
+                        seal_and_open((OPP, rounds), header, len, lent);
+                    }
+                }
             }
         }
     }
 
     #[test]
-    fn avx2_refuses_what_the_scalar_c_refuses_and_mro() {
-        if !wide::runs() {
-            return;
-        }
+    fn avx2_refuses_what_the_scalar_c_refuses() {
         let (header, input) = (bytes(4097), bytes(65_569));
         for (settings, header_len, len, room) in [
             ((0, 4), 0, 40, 72),
@@ -317,18 +383,41 @@ mod tests {
             ((OPP, 4), 0, 65_569, 65_601),
             ((OPP, 4), 0, 40, 7),
             ((OPP, 4), 0, 31, 63),
+            // Refused for nothing but the words, where they are too few.
+            ((OPP, 4), 0, 40, 72),
+            ((OPP, 4), 4096, 40, 72),
+            ((OPP, 4), 0, 1024, 1056),
         ] {
-            for (call, by) in [
-                (avx2_opp_seal as Sealing, baseline_seal as Sealing),
-                (avx2_opp_open, baseline_open),
-            ] {
-                let (header, input) = (&header[..header_len], &input[..len]);
-                let refused = made(call, settings, header, input, room);
-                assert!(refused == made(by, settings, header, input, room));
+            for lent in [0, 20, 21, 27, 28, 29, 52, 53, 533] {
+                let given = Given {
+                    settings,
+                    header: &header[..header_len],
+                    input: &input[..len],
+                    room,
+                    lent,
+                };
+                for (by, seal, open) in by_avx2() {
+                    given.same(by, seal, baseline_seal_run);
+                    given.same(by, open, baseline_open_run);
+                }
             }
         }
-        for call in [avx2_opp_seal as Sealing, avx2_opp_open] {
-            assert_eq!(made(call, (MRO, 4), &[], &input[..40], 72).0, 1 << 32);
+    }
+
+    #[test]
+    fn avx2_refuses_mro_as_no_mode() {
+        let given = Given {
+            settings: (MRO, 4),
+            header: &[],
+            input: &bytes(40),
+            room: 72,
+            lent: 21,
+        };
+        let (output, words) = given.before();
+        let refused = (1 << 32, output, words);
+        for (by, seal, open) in by_avx2() {
+            assert!(given.made(seal) == refused, "{by}: seal");
+            assert!(given.made(open) == refused, "{by}: open");
         }
     }
 }

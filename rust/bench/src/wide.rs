@@ -61,3 +61,14 @@ pub fn missing() -> Option<&'static str> {
         None
     }
 }
+
+/// Why the AVX2 C by clang is not measured, where that by the other compiler is.
+pub fn clang_missing() -> Option<&'static str> {
+    let missing = runs() && baseline::avx2_by_clang().is_none();
+    missing.then_some("no clang was found: the AVX2 C by clang is not measured")
+}
+
+/// Why anything is not measured, a line for each.
+pub fn all_missing() -> impl Iterator<Item = &'static str> {
+    missing().into_iter().chain(clang_missing())
+}
