@@ -38,202 +38,72 @@ pub type RunSealing = unsafe extern "C" fn(
     usize,
 ) -> u64;
 
-extern "C" {
+/// Declares calls that take the arguments of [`Sealing`], each with those of its own behind them.
+macro_rules! sealing {
+    ($($(#[$note:meta])* $scope:vis fn $name:ident($($word:ident: $type:ty),*);)*) => {
+        extern "C" {
+            $($(#[$note])* $scope fn $name(
+                mode: u32,
+                rounds: u32,
+                key: *const u8,
+                key_len: usize,
+                nonce: *const u8,
+                nonce_len: usize,
+                header: *const u8,
+                header_len: usize,
+                input: *const u8,
+                input_len: usize,
+                output: *mut u8,
+                output_len: usize,
+                $($word: $type),*
+            ) -> u64;)*
+        }
+    };
+}
+
+sealing! {
     /// Seals; the arguments are those of `calmbaize_seal`.
-    pub fn baseline_seal(
-        mode: u32,
-        rounds: u32,
-        key: *const u8,
-        key_len: usize,
-        nonce: *const u8,
-        nonce_len: usize,
-        header: *const u8,
-        header_len: usize,
-        input: *const u8,
-        input_len: usize,
-        output: *mut u8,
-        output_len: usize,
-    ) -> u64;
+    pub fn baseline_seal();
 
     /// Opens; the arguments are those of `calmbaize_open`.
-    pub fn baseline_open(
-        mode: u32,
-        rounds: u32,
-        key: *const u8,
-        key_len: usize,
-        nonce: *const u8,
-        nonce_len: usize,
-        header: *const u8,
-        header_len: usize,
-        input: *const u8,
-        input_len: usize,
-        output: *mut u8,
-        output_len: usize,
-    ) -> u64;
+    pub fn baseline_open();
 
     /// Opens under the old start; the arguments are those of `calmbaize_open_old`.
-    pub fn baseline_open_old(
-        mode: u32,
-        rounds: u32,
-        key: *const u8,
-        key_len: usize,
-        nonce: *const u8,
-        nonce_len: usize,
-        header: *const u8,
-        header_len: usize,
-        input: *const u8,
-        input_len: usize,
-        output: *mut u8,
-        output_len: usize,
-    ) -> u64;
+    pub fn baseline_open_old();
 
     /// Converts; the arguments are those of `calmbaize_convert`.
-    pub fn baseline_convert(
-        mode: u32,
-        rounds: u32,
-        key: *const u8,
-        key_len: usize,
-        nonce: *const u8,
-        nonce_len: usize,
-        header: *const u8,
-        header_len: usize,
-        input: *const u8,
-        input_len: usize,
-        output: *mut u8,
-        output_len: usize,
-    ) -> u64;
+    pub fn baseline_convert();
 
     /// Seals from a run of words; the arguments are those of `calmbaize_seal_run`.
-    pub fn baseline_seal_run(
-        mode: u32,
-        rounds: u32,
-        key: *const u8,
-        key_len: usize,
-        nonce: *const u8,
-        nonce_len: usize,
-        header: *const u8,
-        header_len: usize,
-        input: *const u8,
-        input_len: usize,
-        output: *mut u8,
-        output_len: usize,
-        words: *mut u64,
-        words_len: usize,
-    ) -> u64;
+    pub fn baseline_seal_run(words: *mut u64, words_len: usize);
 
     /// Opens from a run of words; the arguments are those of `calmbaize_open_run`.
-    pub fn baseline_open_run(
-        mode: u32,
-        rounds: u32,
-        key: *const u8,
-        key_len: usize,
-        nonce: *const u8,
-        nonce_len: usize,
-        header: *const u8,
-        header_len: usize,
-        input: *const u8,
-        input_len: usize,
-        output: *mut u8,
-        output_len: usize,
-        words: *mut u64,
-        words_len: usize,
-    ) -> u64;
+    pub fn baseline_open_run(words: *mut u64, words_len: usize);
 
     /// Seals under the old start, which the library has no call for; the arguments are those of
     /// `calmbaize_seal`.
-    pub fn baseline_seal_old(
-        mode: u32,
-        rounds: u32,
-        key: *const u8,
-        key_len: usize,
-        nonce: *const u8,
-        nonce_len: usize,
-        header: *const u8,
-        header_len: usize,
-        input: *const u8,
-        input_len: usize,
-        output: *mut u8,
-        output_len: usize,
-    ) -> u64;
+    pub fn baseline_seal_old();
 
     /// Seals from a run of words by AVX2, in OPP alone; the arguments are those of
     /// `calmbaize_seal_run`. The processor must have AVX2.
     #[cfg(target_arch = "x86_64")]
-    pub fn avx2_opp_seal_run(
-        mode: u32,
-        rounds: u32,
-        key: *const u8,
-        key_len: usize,
-        nonce: *const u8,
-        nonce_len: usize,
-        header: *const u8,
-        header_len: usize,
-        input: *const u8,
-        input_len: usize,
-        output: *mut u8,
-        output_len: usize,
-        words: *mut u64,
-        words_len: usize,
-    ) -> u64;
+    pub fn avx2_opp_seal_run(words: *mut u64, words_len: usize);
 
     /// Opens from a run of words by AVX2, in OPP alone; the arguments are those of
     /// `calmbaize_open_run`. The processor must have AVX2.
     #[cfg(target_arch = "x86_64")]
-    pub fn avx2_opp_open_run(
-        mode: u32,
-        rounds: u32,
-        key: *const u8,
-        key_len: usize,
-        nonce: *const u8,
-        nonce_len: usize,
-        header: *const u8,
-        header_len: usize,
-        input: *const u8,
-        input_len: usize,
-        output: *mut u8,
-        output_len: usize,
-        words: *mut u64,
-        words_len: usize,
-    ) -> u64;
+    pub fn avx2_opp_open_run(words: *mut u64, words_len: usize);
 
     // The two by clang: `avx2_by_clang` hands them out.
 
     #[cfg(clang)]
-    fn avx2_clang_opp_seal_run(
-        mode: u32,
-        rounds: u32,
-        key: *const u8,
-        key_len: usize,
-        nonce: *const u8,
-        nonce_len: usize,
-        header: *const u8,
-        header_len: usize,
-        input: *const u8,
-        input_len: usize,
-        output: *mut u8,
-        output_len: usize,
-        words: *mut u64,
-        words_len: usize,
-    ) -> u64;
+    fn avx2_clang_opp_seal_run(words: *mut u64, words_len: usize);
 
     #[cfg(clang)]
-    fn avx2_clang_opp_open_run(
-        mode: u32,
-        rounds: u32,
-        key: *const u8,
-        key_len: usize,
-        nonce: *const u8,
-        nonce_len: usize,
-        header: *const u8,
-        header_len: usize,
-        input: *const u8,
-        input_len: usize,
-        output: *mut u8,
-        output_len: usize,
-        words: *mut u64,
-        words_len: usize,
-    ) -> u64;
+    fn avx2_clang_opp_open_run(words: *mut u64, words_len: usize);
+}
 
+extern "C" {
     /// Walks; the arguments are those of `calmbaize_walk`.
     pub fn baseline_walk(
         start: *const u8,

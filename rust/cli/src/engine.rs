@@ -41,11 +41,28 @@ impl Words {
 
 impl Drop for Words {
     fn drop(&mut self) {
-        for word in &mut self.0 {
-            // SAFETY: the pointer comes from a mutable borrow. The write is volatile since the
-            // compiler may leave out any other write to what is not read again.
-            unsafe { ptr::write_volatile(word, 0) };
-        }
-        compiler_fence(Ordering::SeqCst);
+        overwrite(&mut self.0);
+    }
+}
+
+/// Zeros, for words that are not read again.
+fn overwrite(words: &mut [u64]) {
+    for word in words {
+        // SAFETY: the pointer comes from a mutable borrow. The write is volatile since the
+        // compiler may leave out any other write to what is not read again.
+        unsafe { ptr::write_volatile(word, 0) };
+    }
+    compiler_fence(Ordering::SeqCst);
+}
+
+#[cfg(test)]
+mod tests {
+    use super::overwrite;
+
+    #[test]
+    fn all_words_are_overwritten() {
+        let mut words = vec![u64::MAX; 533];
+        overwrite(&mut words);
+        assert!(words.iter().all(|&word| word == 0));
     }
 }
