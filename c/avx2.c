@@ -6,7 +6,7 @@
 
 #include <immintrin.h>
 
-/* The longest message has 512 blocks, and their masks so many words. */
+/* The longest message has 512 blocks: a word of the masks for each, and sixteen. */
 enum { FOUR = 4 * BLOCK, MASK_WORDS = 512 + WORDS };
 
 /* Vectors of four words. */

@@ -57,7 +57,7 @@ case $kind in
 baseline) processor='' && options=() ;;
 # Each function says for which processor it is, which -march alone leaves as it is. By itself the compiler
 # keeps the stack aligned to 16 bytes, and with vectors of 32 OPP was a third slower at some places of it.
-# Bundles of more words than a vector has change the order of the sum's words in each turn.
+# With bundles of more words than a vector has, the compiler shuffles the sum's words in each turn.
 wide) processor='s/"target-cpu"="x86-64"/"target-cpu"="x86-64-v3" "stackrealign"/' &&
     options=(-march=x86-64-v3 -mllvm -slp-max-vf=4) ;;
 esac

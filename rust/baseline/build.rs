@@ -19,7 +19,7 @@ fn main() {
     println!("cargo::rustc-check-cfg=cfg(clang)");
     println!("cargo::rerun-if-changed={}", folder.display());
     println!("cargo::rerun-if-env-changed=CC");
-    // Whether there is a clang.
+    // Whether there is a clang; one that comes later to a folder of the PATH is seen after a clean.
     println!("cargo::rerun-if-env-changed=PATH");
     let compiler = env::var_os("CC").unwrap_or_else(|| "cc".into());
     let mut archive = Command::new("ar");

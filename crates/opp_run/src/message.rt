@@ -12,7 +12,8 @@ ghost use Rattle.blockplan.specs.Plan.{whole};
 ghost use Rattle.opp.specs.Opp.{oppCheck};
 ghost use Rattle.opp.specs.Pass.{written, plain};
 
-// Room for the words of the gamma masks of the longest message: one for each of 512 blocks, and 17.
+// Room for the words of the gamma masks of the longest message: one for each of 512 blocks, sixteen, and
+// one that pass_blocks asks for and nothing reads.
 const MOST: usize = 529;
 
 // All bytes; what comes back is the check over the plain ones. The words of the gamma masks are made once

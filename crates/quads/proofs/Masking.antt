@@ -1,5 +1,5 @@
 -- Words of lanes xored with those of masks. Assumes nothing.
-use mathlib.Core.Path.{_≡_, refl, ap, _∙_}
+use mathlib.Core.Path.{_≡_, ap, _∙_}
 use mathlib.Core.Logic.{_≢_}
 use mathlib.Core.List.{List}
 use Prim.Native.Nat.{ℕ, _+_, _*_, _<_, _≤_}
@@ -8,7 +8,6 @@ use native.Mathlib.Decide.{decLt}
 use lib.ListN.{length, getD, set, length-set}
 use lib.Seq.{getD-set-same, getD-set-other}
 use lib.Bits.{bitXor}
-use Rattle.words.specs.Sequence.{tab}
 use Rattle.words.specs.Block.{xorBlock}
 use Rattle.words.proofs.Lists.{tab-ext}
 use Rattle.masks.specs.Run.{neighbours, maskFrom}

@@ -51,7 +51,7 @@ pub fn spread_summed(sum: [u64; 16], f: Four) -> Summed
 }
 
 // Word i of lane m, xor that of its mask.
-fn mask_word(w: &mut [u64; 64], masks: &[u64], n: usize, i: usize, m: usize)
+fn mask_lane_word(w: &mut [u64; 64], masks: &[u64], n: usize, i: usize, m: usize)
     requires { ⌜ (length (now w) ≡ 64) × ((n + 20 ≤ length (now masks)) × ((i < 16) × (m < 4))) ⌝ }
     ensures { λ _. ⌜ now (w .exit) ≡ set (now (w .entry)) (4 * i + m) (bitXor (getD (now (w .entry)) (4 * i + m) 0) (getD (now (masks .entry)) (n + m + i) 0)) ⌝ }
 {
@@ -63,10 +63,10 @@ fn mask_words(w: &mut [u64; 64], masks: &[u64], n: usize, i: usize)
     requires { ⌜ (length (now w) ≡ 64) × ((n + 20 ≤ length (now masks)) × (i < 16)) ⌝ }
     ensures { λ _. ⌜ MaskedWords (now (masks .entry)) n i 1 (now (w .entry)) (now (w .exit)) ⌝ }
 {
-    mask_word(w, masks, n, i, 0);
-    mask_word(w, masks, n, i, 1);
-    mask_word(w, masks, n, i, 2);
-    mask_word(w, masks, n, i, 3);
+    mask_lane_word(w, masks, n, i, 0);
+    mask_lane_word(w, masks, n, i, 1);
+    mask_lane_word(w, masks, n, i, 2);
+    mask_lane_word(w, masks, n, i, 3);
 }
 
 // Words i to i + 3 of each lane.
@@ -80,7 +80,8 @@ fn mask_four(w: &mut [u64; 64], masks: &[u64], n: usize, i: usize)
     mask_words(w, masks, n, i + 3);
 }
 
-// Each lane xor its mask. Calls, since a loop would be taken for one along the lanes.
+// Each lane xor its mask. Calls and no loop: the compiler would vectorise a loop along a lane, and not
+// across the four.
 pub fn mask_lanes(w: &mut [u64; 64], masks: &[u64], n: usize)
     requires { ⌜ (length (now w) ≡ 64) × (n + 20 ≤ length (now masks)) ⌝ }
     ensures { λ _. ⌜ Masked (λ m. maskFrom 0 (now (masks .entry)) (n + m)) (now (w .entry)) (now (w .exit)) ⌝ }

@@ -44,8 +44,9 @@ const ENGINES_TEXT: &str = "Calmbaize alone is the stepping engine, `calmbaize_s
 
 /// What stands below the ratios of the engines.
 const ENGINE_BOUNDS: &str =
-    "`make bench` fails where a ratio is above its bound. The aim of the run \
-    engine on the archive for x86-64-v3 is 0.45 by the stepping engine.\n\n";
+    "A ratio is the median of the ratios batch by batch. `make bench` fails where \
+    a ratio is above its bound. The aim of the run engine on the archive for x86-64-v3 is 0.45 by the \
+    stepping engine.\n\n";
 
 /// What stands below the figures of the store.
 const STORES: &str =

@@ -8,7 +8,6 @@ use denote.Ref.{now}
 use Rattle.permutation.specs.Permutation.{backPerm}
 use Rattle.masks.specs.Run.{maskFrom}
 use Rattle.mem.specs.Mem.{decipher}
-use Rattle.blockplan.specs.Plan.{blockAt}
 use Rattle.blockplan.specs.Pass.{madeAt, bytesAt, plainAt, under}
 use Rattle.quads.specs.Quads.{nth, FourAre, fromRun}
 use Rattle.quads.proofs.Laws.{bytes-are-of, sum-is-of}
