@@ -38,7 +38,8 @@ pub type RunSealing = unsafe extern "C" fn(
     usize,
 ) -> u64;
 
-/// Declares calls that take the arguments of [`Sealing`], each with those of its own behind them.
+/// Declares foreign calls that take the arguments of [`Sealing`], each with those of its own behind them.
+#[macro_export]
 macro_rules! sealing {
     ($($(#[$note:meta])* $scope:vis fn $name:ident($($word:ident: $type:ty),*);)*) => {
         extern "C" {

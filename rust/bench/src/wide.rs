@@ -2,34 +2,11 @@
 //! whether the processor can run it.
 
 #[cfg(wide)]
-macro_rules! calls {
-    ($($name:ident($($word:ident: $type:ty),*);)*) => {
-        extern "C" {
-            $(pub fn $name(
-                mode: u32,
-                rounds: u32,
-                key: *const u8,
-                key_len: usize,
-                nonce: *const u8,
-                nonce_len: usize,
-                header: *const u8,
-                header_len: usize,
-                input: *const u8,
-                input_len: usize,
-                output: *mut u8,
-                output_len: usize,
-                $($word: $type),*
-            ) -> u64;)*
-        }
-    };
-}
-
-#[cfg(wide)]
-calls! {
-    wide_seal();
-    wide_open();
-    wide_seal_run(words: *mut u64, words_len: usize);
-    wide_open_run(words: *mut u64, words_len: usize);
+baseline::sealing! {
+    pub fn wide_seal();
+    pub fn wide_open();
+    pub fn wide_seal_run(words: *mut u64, words_len: usize);
+    pub fn wide_open_run(words: *mut u64, words_len: usize);
 }
 
 /// Whether the processor has what x86-64-v3 asks for, AVX2 among it.
