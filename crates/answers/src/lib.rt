@@ -7,7 +7,7 @@ ghost use Prim.Native.Nat.{_<_, _^_};
 // Why a call is refused.
 pub enum Ground {
     // The mode is not 1 or 2.
-    Mode,
+    ModeNumber,
     // The round count is not an allowed one.
     Rounds,
     // The key is not 32 bytes.
@@ -59,7 +59,7 @@ fn ground_number(g: Ground) -> u32
     ensures { λ r. ⌜ r ≡ groundNumber g ⌝ }
 {
     match g {
-        Ground::Mode => 1,
+        Ground::ModeNumber => 1,
         Ground::Rounds => 2,
         Ground::KeyLength => 3,
         Ground::NonceLength => 4,

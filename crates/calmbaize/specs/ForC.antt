@@ -12,7 +12,7 @@ use Rattle.converting.specs.Converting.{convertCall}
 use Rattle.run_sealing.specs.RunSealing.{sealRunCall, openRunCall}
 use Rattle.walking.specs.Walking.{walkCall, jumpCall}
 use Rattle.sales.specs.declared.Sale.{Sale}
-use Rattle.store.specs.Store.{formatCall, takeCall, cancelCall, totalCall, readCall}
+use Rattle.store.specs.Store.{formatCall, takeCall, cancelCall, totalCall, readOffset}
 
 -- take's arguments from C as one sale
 abbrev pub saleOf : ℕ → ℕ → List ℕ → ℕ → ℕ → ℕ → List ℕ → Sale
@@ -51,4 +51,4 @@ pub record ForC : Type 0 where
   pub of-take : (key : List ℕ) (x : Sale) (s : List ℕ) → Apart (takeCall key x s .0)
   pub of-cancel : (key : List ℕ) (machine sale : ℕ) (s : List ℕ) → Bytes s → Apart (cancelCall key machine sale s .0)
   pub of-total : (key s : List ℕ) → Apart (shown (totalCall key s))
-  pub of-read : (machine sale : ℕ) (s : List ℕ) → Apart (readCall machine sale s)
+  pub of-read : (machine sale : ℕ) (s : List ℕ) → Apart (readOffset machine sale s)

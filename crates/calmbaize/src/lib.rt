@@ -8,7 +8,7 @@ ghost use Rattle.sealing.specs.Sealing.{sealCall, openCall, openOldCall};
 ghost use Rattle.run_sealing.specs.RunSealing.{sealRunCall, openRunCall};
 ghost use Rattle.converting.specs.Converting.{convertCall};
 ghost use Rattle.walking.specs.Walking.{walkCall, jumpCall};
-ghost use Rattle.store.specs.Store.{formatCall, takeCall, cancelCall, totalCall, readCall};
+ghost use Rattle.store.specs.Store.{formatCall, takeCall, cancelCall, totalCall, readOffset};
 ghost use Rattle.calmbaize.specs.ForC.{saleOf, totalled};
 
 // Seals a message: mode 1 is OPP, 2 is MRO; the output receives the ciphertext and then the tag.
@@ -200,7 +200,7 @@ pub extern "C" fn calmbaize_store_total(key: &[u8], store: &[u8], total: &mut u6
 // Where in a store the 61 bytes of a sale begin.
 #[no_mangle]
 pub extern "C" fn calmbaize_store_read(store: &[u8], machine: u32, sale: u32) -> u64
-    ensures { λ r. ⌜ r ≡ codeOf (readCall machine sale (now (store .entry))) ⌝ }
+    ensures { λ r. ⌜ r ≡ codeOf (readOffset machine sale (now (store .entry))) ⌝ }
 {
     answers::code(store::read_offset(store, machine, sale))
 }

@@ -8,7 +8,7 @@ use borrow.Author.Tests.{not-false, eqb-true, ltb-false, le-ltb}
 use Rattle.answers.specs.Answers.{lineAt, line, room}
 use Rattle.answers.specs.declared.Check.{Check}
 use Rattle.answers.specs.declared.Check.the-variants.{Clear}
-use Rattle.answers.specs.declared.Ground.the-variants.{Mode, Rounds, KeyLength, NonceLength, HeaderLength, InputLength, OutputLength, TagMissing}
+use Rattle.answers.specs.declared.Ground.the-variants.{ModeNumber, Rounds, KeyLength, NonceLength, HeaderLength, InputLength, OutputLength, TagMissing}
 use Rattle.answers.proofs.Values.{placeOf, lineAt-lt, after, line-after, line-clear, after-clear, passed-on, room-clear}
 use Rattle.checks.specs.Checks.{isMode, isRounds, settings, sealInputs, openInputs, sealChecks, openChecks, convertChecks}
 
@@ -24,7 +24,7 @@ module _ (mode rounds key nonce header : ℕ) where
   settings-lengths : settings mode rounds key nonce header Clear ≡ Clear → (key ≡ 32) × (nonce ≡ 16)
   unfolding settings
   settings-lengths e =
-      let a = line-clear (not (isMode mode)) Mode _ e in
+      let a = line-clear (not (isMode mode)) ModeNumber _ e in
       let b = line-clear (not (isRounds rounds)) Rounds _ (a .1) in
       let c = line-clear (not (eqb key 32)) KeyLength _ (b .1) in
       let d = line-clear (not (eqb nonce 16)) NonceLength _ (c .1) in
@@ -91,7 +91,7 @@ module _ (mode rounds key nonce header : ℕ) where
   settings-place : (n : ℕ) (next : Check) → 0 < n → placeOf next < n → placeOf (settings mode rounds key nonce header next) < n
   unfolding settings line
   settings-place n next z h =
-      lineAt-lt n (not (isMode mode)) Mode 0 _ (λ t. z)
+      lineAt-lt n (not (isMode mode)) ModeNumber 0 _ (λ t. z)
       (λ a. lineAt-lt n (not (isRounds rounds)) Rounds 0 _ (λ t. z)
       (λ b. lineAt-lt n (not (eqb key 32)) KeyLength 0 _ (λ t. z)
       (λ c. lineAt-lt n (not (eqb nonce 16)) NonceLength 0 _ (λ t. z)

@@ -6,7 +6,7 @@ use lib.Dec.{eqb, ltb}
 use Rattle.answers.specs.Answers.{line, room}
 use Rattle.answers.specs.declared.Check.{Check}
 use Rattle.answers.specs.declared.Check.the-variants.{Clear}
-use Rattle.answers.specs.declared.Ground.the-variants.{Mode, Rounds, KeyLength, NonceLength, HeaderLength, InputLength, TagMissing}
+use Rattle.answers.specs.declared.Ground.the-variants.{ModeNumber, Rounds, KeyLength, NonceLength, HeaderLength, InputLength, TagMissing}
 
 -- mode 1 or 2
 unfoldable pub isMode : ℕ → Bool
@@ -24,7 +24,7 @@ isRounds rounds = isOneOf (4 ∷ 6 ∷ 8 ∷ 12 ∷ []) rounds
 -- seal, open, convert, first to fifth: mode, rounds, and the lengths of key, nonce and header; then the checks behind them
 unfoldable pub settings : ℕ → ℕ → ℕ → ℕ → ℕ → Check → Check
 settings mode rounds key nonce header next =
-    line (not (isMode mode)) Mode
+    line (not (isMode mode)) ModeNumber
     (line (not (isRounds rounds)) Rounds
     (line (not (eqb key 32)) KeyLength
     (line (not (eqb nonce 16)) NonceLength

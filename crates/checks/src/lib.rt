@@ -42,7 +42,7 @@ fn check_settings(mode: u32, rounds: u32, of: Lengths) -> Check
     ensures { λ r. ⌜ r ≡ settings mode rounds (of .key) (of .nonce) (of .header) Clear ⌝ }
 {
     if !is_mode(mode) {
-        return Check::Fails(Ground::Mode, 0);
+        return Check::Fails(Ground::ModeNumber, 0);
     }
     if !is_rounds(rounds) {
         return Check::Fails(Ground::Rounds, 0);

@@ -13,11 +13,11 @@ use Rattle.cells.specs.Cells.{firstFree, lengthFits}
 use Rattle.sales.specs.declared.Sale.{Sale}
 use Rattle.entries.specs.Entries.{salesIn}
 use Rattle.store.specs.Store.{formatChecks, formatCall, totalCall}
-use Rattle.ledger.specs.Book.{Call, Book, found, coins, opening, bookTake, bookCancel, entered, amountBack, AllFit, NoFormat}
+use Rattle.ledger.specs.Book.{Call, Book, found, coins, newBook, bookTake, bookCancel, entered, amountBack, AllFit, NoFormat}
 use Rattle.ledger.specs.Book.Call.{format, take, cancel, total, read}
-use Rattle.ledger.specs.Conserved.{called, run, kept, Agrees, Conserved}
+use Rattle.ledger.specs.Conserved.{called, storeAfter, kept, Agrees, Conserved}
 use Rattle.ledger.proofs.Sound.{total-sound, total-accepts, take-answers, cancel-answers}
-use Rattle.ledger.proofs.Kept.{Kept, kept-opening, kept-format, kept-run}
+use Rattle.ledger.proofs.Kept.{Kept, kept-new, kept-format, kept-after}
 
 -- ---- store and ledger agree
 
@@ -31,7 +31,7 @@ agrees key s b k i = record {
 }
 
 -- a store of a right length, formatted
-formatted : (key s : List ℕ) → lengthFits s ≡ true → Kept key (formatCall s .1) (opening 0 [])
+formatted : (key s : List ℕ) → lengthFits s ≡ true → Kept key (formatCall s .1) (newBook 0 [])
 unfolding formatCall formatChecks line lineAt checked
 formatted key s e = rw e (kept-format key s e)
 
@@ -59,7 +59,7 @@ until key s b (call ∷ calls) w =
 
 -- and format makes it 0
 zero-stays : (call : Call) (a : Answer) (b : Book) → b .first ≡ 0 → entered call a b .first ≡ 0
-unfolding entered opening bookTake bookCancel
+unfolding entered newBook bookTake bookCancel
 zero-stays call (Refused g p) b e = e
 zero-stays format (Done v) b e = refl
 zero-stays (take x) (Done v) b e = e
@@ -76,13 +76,13 @@ zero-kept key s b (call ∷ calls) e =
 -- ---- the promise
 
 module _ (key : List ℕ) (calls : List Call) (k : length key ≡ 32) (bytes : Bytes key) (w : AllFit calls) where
-  accepted : (s : List ℕ) (first : ℕ) → totalCall key s ≡ Done first → Agrees key (run key calls s) (kept key calls s (opening first (salesIn key s)))
+  accepted : (s : List ℕ) (first : ℕ) → totalCall key s ≡ Done first → Agrees key (storeAfter key calls s) (kept key calls s (newBook first (salesIn key s)))
   accepted s first e =
       let h = total-accepts key s first e in
-      agrees key (run key calls s) _ k (kept-run key bytes calls w s (opening first (salesIn key s)) (kept-opening key s first (salesIn key s) (h .0) refl (h .1)))
+      agrees key (storeAfter key calls s) _ k (kept-after key bytes calls w s (newBook first (salesIn key s)) (kept-new key s first (salesIn key s) (h .0) refl (h .1)))
 
-  after-format : (s : List ℕ) → lengthFits s ≡ true → Agrees key (run key calls (formatCall s .1)) (kept key calls (formatCall s .1) (opening 0 []))
-  after-format s e = agrees key (run key calls (formatCall s .1)) _ k (kept-run key bytes calls w (formatCall s .1) (opening 0 []) (formatted key s e))
+  after-format : (s : List ℕ) → lengthFits s ≡ true → Agrees key (storeAfter key calls (formatCall s .1)) (kept key calls (formatCall s .1) (newBook 0 []))
+  after-format s e = agrees key (storeAfter key calls (formatCall s .1)) _ k (kept-after key bytes calls w (formatCall s .1) (newBook 0 []) (formatted key s e))
 
 -- the figure of a ledger whose first figure is known
 figures : (key s : List ℕ) (b : Book) (first : ℕ) → b .first ≡ first → Agrees key s b
@@ -94,8 +94,8 @@ conserved = record {
   from-accepted = λ key s first calls k bytes w e. accepted key calls k bytes w s first e;
   from-format = λ key s calls k bytes w e. after-format key calls k bytes w s e;
   since-format = λ key s calls k bytes w e.
-      let h = figures key _ _ 0 (zero-kept key (formatCall s .1) (opening 0 []) calls (unfold opening in refl)) (after-format key calls k bytes w s e) in
+      let h = figures key _ _ 0 (zero-kept key (formatCall s .1) (newBook 0 []) calls (unfold newBook in refl)) (after-format key calls k bytes w s e) in
       (h .0 ∙ ap Done (omega arith), omega (arith, h .1));
   until-format = λ key s first calls k bytes w n e.
-      figures key _ _ first (until key s (opening first (salesIn key s)) calls n ∙ (unfold opening in refl)) (accepted key calls k bytes w s first e);
+      figures key _ _ first (until key s (newBook first (salesIn key s)) calls n ∙ (unfold newBook in refl)) (accepted key calls k bytes w s first e);
 }

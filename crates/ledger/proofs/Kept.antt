@@ -15,10 +15,10 @@ use Rattle.cells.specs.Changes.{fresh, filled, emptied}
 use Rattle.sales.specs.declared.Sale.{Sale}
 use Rattle.sales.specs.Sale.{Fits, bodyFor}
 use Rattle.entries.specs.Entries.{salesIn}
-use Rattle.store.specs.Store.{formatChecks, takeChecks, cancelChecks, formatCall, takeCall, cancelCall, totalCall, readCall}
-use Rattle.ledger.specs.Book.{Call, Book, found, without, coins, opening, bookTake, bookCancel, entered, AllFit}
+use Rattle.store.specs.Store.{formatChecks, takeChecks, cancelChecks, formatCall, takeCall, cancelCall, totalCall, readOffset}
+use Rattle.ledger.specs.Book.{Call, Book, found, without, coins, newBook, bookTake, bookCancel, entered, AllFit}
 use Rattle.ledger.specs.Book.Call.{format, take, cancel, total, read}
-use Rattle.ledger.specs.Conserved.{called, run, kept}
+use Rattle.ledger.specs.Conserved.{called, storeAfter, kept}
 use Rattle.ledger.proofs.Sales.{coins-append, coins-parted}
 use Rattle.ledger.proofs.Sound.{Sound, take-clear, cancel-clear, format-clear, fresh-sound, filled-sound, emptied-sound}
 
@@ -27,9 +27,9 @@ use Rattle.ledger.proofs.Sound.{Sound, take-clear, cancel-clear, format
 abbrev pub Balanced : Book → Type 0
 Balanced b = coins (b .standing) + coins (b .cancelled) ≡ b .first + coins (b .taken)
 
-balanced-opening : (first : ℕ) (l : List Sale) → coins l ≡ first → Balanced (opening first l)
-unfolding opening coins
-balanced-opening first l e = omega arith
+balanced-new : (first : ℕ) (l : List Sale) → coins l ≡ first → Balanced (newBook first l)
+unfolding newBook coins
+balanced-new first l e = omega arith
 
 balanced-take : (x : Sale) (b : Book) → Balanced b → Balanced (bookTake x b)
 unfolding bookTake coins
@@ -49,13 +49,13 @@ pub record Kept (key s : List ℕ) (b : Book) : Type 0 where
 
 module _ (key : List ℕ) where
   -- a new ledger
-  pub kept-opening : (s : List ℕ) (first : ℕ) (l : List Sale) → Sound key s → salesIn key s ≡ l → coins l ≡ first → Kept key s (opening first l)
-  unfolding opening
-  kept-opening s first l h e f = record { sound = h; stands = e; balanced = balanced-opening first l f }
+  pub kept-new : (s : List ℕ) (first : ℕ) (l : List Sale) → Sound key s → salesIn key s ≡ l → coins l ≡ first → Kept key s (newBook first l)
+  unfolding newBook
+  kept-new s first l h e f = record { sound = h; stands = e; balanced = balanced-new first l f }
 
   -- the ledger of a store just formatted
-  pub kept-format : (s : List ℕ) → lengthFits s ≡ true → Kept key (fresh (cells s)) (opening 0 [])
-  kept-format s e = let h = fresh-sound key s e in kept-opening (fresh (cells s)) 0 [] (h .0) (h .1) (unfold coins in refl)
+  pub kept-format : (s : List ℕ) → lengthFits s ≡ true → Kept key (fresh (cells s)) (newBook 0 [])
+  kept-format s e = let h = fresh-sound key s e in kept-new (fresh (cells s)) 0 [] (h .0) (h .1) (unfold coins in refl)
 
   kept-take : (x : Sale) → Bytes key → Fits x → (s : List ℕ) (b : Book) → Kept key s b → (firstFree s ≡ 0 → ⊥) → Kept key (filled (bodyFor key x) s) (bookTake x b)
   unfolding bookTake
@@ -100,10 +100,10 @@ module _ (key : List ℕ) where
     step (cancel machine sale) calls w s b i =
         (by-checks (cancel machine sale) (cancelChecks key machine sale s) _ s _ b i (λ e. kept-cancel machine sale s b i (cancel-clear key machine sale s e)), w)
     step total calls w s b i = (by-total (totalCall key s) s b i, w)
-    step (read machine sale) calls w s b i = (by-read machine sale (readCall machine sale s) s b i, w)
+    step (read machine sale) calls w s b i = (by-read machine sale (readOffset machine sale s) s b i, w)
 
     -- after any history
-    pub kept-run : (calls : List Call) → AllFit calls → (s : List ℕ) (b : Book) → Kept key s b → Kept key (run key calls s) (kept key calls s b)
-    unfolding run kept
-    kept-run [] w s b i = i
-    kept-run (call ∷ calls) w s b i = let h = step call calls w s b i in kept-run calls (h .1) (called key call s .1) (entered call (called key call s .0) b) (h .0)
+    pub kept-after : (calls : List Call) → AllFit calls → (s : List ℕ) (b : Book) → Kept key s b → Kept key (storeAfter key calls s) (kept key calls s b)
+    unfolding storeAfter kept
+    kept-after [] w s b i = i
+    kept-after (call ∷ calls) w s b i = let h = step call calls w s b i in kept-after calls (h .1) (called key call s .1) (entered call (called key call s .0) b) (h .0)

@@ -68,8 +68,8 @@ pub record Book : Type 0 where
   pub standing : List Sale
 
 -- a new one: nothing taken or cancelled yet
-unfoldable pub opening : ℕ → List Sale → Book
-opening first standing = record { first = first; taken = []; cancelled = []; standing = standing }
+unfoldable pub newBook : ℕ → List Sale → Book
+newBook first standing = record { first = first; taken = []; cancelled = []; standing = standing }
 
 -- take puts its sale in front
 unfoldable pub bookTake : Sale → Book → Book
@@ -87,7 +87,7 @@ bookCancel machine sale b = record {
 -- the ledger after one call that was answered so: a refused call counts for nothing, format begins at 0 with no sale
 unfoldable pub entered : Call → Answer → Book → Book
 entered call (Refused ground place) b = b
-entered format (Done value) b = opening 0 []
+entered format (Done value) b = newBook 0 []
 entered (take x) (Done value) b = bookTake x b
 entered (cancel machine sale) (Done value) b = bookCancel machine sale b
 entered total (Done value) b = b

@@ -10,8 +10,8 @@ use Rattle.answers.specs.declared.Answer.the-variants.{Done}
 use Rattle.cells.specs.Cells.{cells, lengthFits}
 use Rattle.sales.specs.declared.Sale.{Sale}
 use Rattle.entries.specs.Entries.{salesIn}
-use Rattle.store.specs.Store.{formatCall, takeCall, cancelCall, totalCall, readCall}
-use Rattle.ledger.specs.Book.{Call, Book, found, coins, opening, entered, amountBack, AllFit, NoFormat}
+use Rattle.store.specs.Store.{formatCall, takeCall, cancelCall, totalCall, readOffset}
+use Rattle.ledger.specs.Book.{Call, Book, found, coins, newBook, entered, amountBack, AllFit, NoFormat}
 use Rattle.ledger.specs.Book.Call.{format, take, cancel, total, read}
 
 module _ (key : List ℕ) where
@@ -21,12 +21,12 @@ module _ (key : List ℕ) where
   called (take x) s = takeCall key x s
   called (cancel machine sale) s = cancelCall key machine sale s
   called total s = (totalCall key s, s)
-  called (read machine sale) s = (readCall machine sale s, s)
+  called (read machine sale) s = (readOffset machine sale s, s)
 
   -- the store after a history of calls
-  unfoldable pub run : List Call → List ℕ → List ℕ
-  run [] s = s
-  run (call ∷ calls) s = run calls (called call s .1)
+  unfoldable pub storeAfter : List Call → List ℕ → List ℕ
+  storeAfter [] s = s
+  storeAfter (call ∷ calls) s = storeAfter calls (called call s .1)
 
   -- the ledger after them, each entered with its own answer
   unfoldable pub kept : List Call → List ℕ → Book → Book
@@ -51,16 +51,16 @@ module _ (key : List ℕ) where
 pub record Conserved : Type 0 where
   -- from any store that total accepts: the ledger begins with its figure and the sales that open there
   pub from-accepted : (key s : List ℕ) (first : ℕ) (calls : List Call) → length key ≡ 32 → Bytes key → AllFit calls
-      → totalCall key s ≡ Done first → Agrees key (run key calls s) (kept key calls s (opening first (salesIn key s)))
+      → totalCall key s ≡ Done first → Agrees key (storeAfter key calls s) (kept key calls s (newBook first (salesIn key s)))
   -- from a format on, of any store of a right length, whatever it held: the ledger begins at 0 with no sale
   pub from-format : (key s : List ℕ) (calls : List Call) → length key ≡ 32 → Bytes key → AllFit calls → lengthFits s ≡ true
-      → Agrees key (run key calls (formatCall s .1)) (kept key calls (formatCall s .1) (opening 0 []))
+      → Agrees key (storeAfter key calls (formatCall s .1)) (kept key calls (formatCall s .1) (newBook 0 []))
   -- "From the last format on, [..] the cash total equals coin amounts taken less coin amounts cancelled", of which there are no more:
   -- a later format among the calls begins the ledger anew
   pub since-format : (key s : List ℕ) (calls : List Call) → length key ≡ 32 → Bytes key → AllFit calls → lengthFits s ≡ true
-      → let b = kept key calls (formatCall s .1) (opening 0 []) in
-      (totalCall key (run key calls (formatCall s .1)) ≡ Done (coins (b .taken) - coins (b .cancelled))) × (coins (b .cancelled) ≤ coins (b .taken))
+      → let b = kept key calls (formatCall s .1) (newBook 0 []) in
+      (totalCall key (storeAfter key calls (formatCall s .1)) ≡ Done (coins (b .taken) - coins (b .cancelled))) × (coins (b .cancelled) ≤ coins (b .taken))
   -- from any store that total accepts, until the next format: the figure that it began with is added
   pub until-format : (key s : List ℕ) (first : ℕ) (calls : List Call) → length key ≡ 32 → Bytes key → AllFit calls → NoFormat calls
-      → totalCall key s ≡ Done first → let b = kept key calls s (opening first (salesIn key s)) in
-      (totalCall key (run key calls s) ≡ Done ((first + coins (b .taken)) - coins (b .cancelled))) × (coins (b .cancelled) ≤ first + coins (b .taken))
+      → totalCall key s ≡ Done first → let b = kept key calls s (newBook first (salesIn key s)) in
+      (totalCall key (storeAfter key calls s) ≡ Done ((first + coins (b .taken)) - coins (b .cancelled))) × (coins (b .cancelled) ≤ first + coins (b .taken))

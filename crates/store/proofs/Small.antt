@@ -21,7 +21,7 @@ use Rattle.cells.proofs.Form.{form-of}
 use Rattle.sales.specs.declared.Sale.{Sale}
 use Rattle.sales.proofs.Bodies.{amount-lt}
 use Rattle.entries.specs.Entries.{shutAt, saleAt}
-use Rattle.store.specs.Store.{formChecks, keyChecks, formatChecks, takeChecks, cancelChecks, totalChecks, readChecks, formatCall, takeCall, cancelCall, readCall}
+use Rattle.store.specs.Store.{formChecks, keyChecks, formatChecks, takeChecks, cancelChecks, totalChecks, readChecks, formatCall, takeCall, cancelCall, readOffset}
 use Rattle.store.proofs.Sought.{cell-inside, free-inside}
 
 -- a cell of a store of right form
@@ -78,8 +78,8 @@ total-place key s =
     key-place key s _ (λ f. lineAt-lt (2 ^ 32) (some (shutAt key s) (sales s)) TagDiffers (first (shutAt key s) (sales s)) Clear
     (λ t. omega (arith, cell-low s (first (shutAt key s) (sales s)) f (form-of s f .sold-here _ (first-in (shutAt key s) (sales s) t)))) (λ t. lit< tt))
 
-pub read-small : (machine sale : ℕ) (s : List ℕ) → valueOf (readCall machine sale s) < 2 ^ 32
-unfolding readCall readChecks
+pub read-small : (machine sale : ℕ) (s : List ℕ) → valueOf (readOffset machine sale s) < 2 ^ 32
+unfolding readOffset readChecks
 read-small machine sale s =
     judged-lt (2 ^ 32) (readChecks machine sale s) _
     (form-place s _ (λ f. unfold line in lineAt-lt (2 ^ 32) (not (present machine sale s)) SaleNumbers 0 Clear (λ t. lit< tt) (λ t. lit< tt)))

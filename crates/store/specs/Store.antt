@@ -69,19 +69,19 @@ cancelCall key machine sale s =
 unfoldable pub totalCall : List ℕ → List ℕ → Answer
 totalCall key s = judged (totalChecks key s) (Done (cash (salesIn key s)))
 
--- read: the offset in the store at which the sale's 61 bytes begin, byte 3 of its cell
-unfoldable pub readCall : ℕ → ℕ → List ℕ → Answer
-readCall machine sale s = judged (readChecks machine sale s) (Done (64 * cellNamed machine sale s + 3))
-
 -- a part of the store where the checks are clear, an empty part where refused
 unfoldable pub partWhere : Check → List ℕ → List ℕ
 partWhere Clear part = part
 partWhere (Fails ground place) part = []
 
--- read as a part of the store itself: the sale's 61 bytes
+-- read: "A reader that names a sale receives its 61 bytes as a part of the store itself; where refused, an empty part"
 unfoldable pub readPart : ℕ → ℕ → List ℕ → List ℕ
 readPart machine sale s = partWhere (readChecks machine sale s) (bodyOf s (cellNamed machine sale s))
 
 -- read's second call: the number and place of the refusal, 0 and 0 where nothing is refused
 unfoldable pub readRefusal : ℕ → ℕ → List ℕ → Answer
 readRefusal machine sale s = judged (readChecks machine sale s) (Done 0)
+
+-- for C, which gets no part: the offset in the store at which that part begins, byte 3 of the sale's cell
+unfoldable pub readOffset : ℕ → ℕ → List ℕ → Answer
+readOffset machine sale s = judged (readChecks machine sale s) (Done (64 * cellNamed machine sale s + 3))

@@ -18,7 +18,7 @@ ghost use Rattle.answers.specs.Answers.{judged};
 ghost use Rattle.answers.specs.declared.Answer.the-variants.{Done};
 ghost use Rattle.answers.specs.declared.Check.the-variants.{Clear};
 ghost use Rattle.cells.specs.Cells.{cellNamed};
-ghost use Rattle.store.specs.Store.{keyChecks, readChecks, formatCall, takeCall, cancelCall, totalCall, readCall, readPart, readRefusal};
+ghost use Rattle.store.specs.Store.{keyChecks, readChecks, formatCall, takeCall, cancelCall, totalCall, readOffset, readPart, readRefusal};
 
 // The checks of a key and of the store's form.
 fn check_key(key: &[u8], store: &[u8]) -> Check
@@ -134,7 +134,7 @@ pub fn read_refusal(store: &[u8], machine: u32, sale: u32) -> Answer
 
 // Where in the store read's part begins.
 pub fn read_offset(store: &[u8], machine: u32, sale: u32) -> Answer
-    ensures { λ r. ⌜ r ≡ readCall machine sale (now (store .entry)) ⌝ }
+    ensures { λ r. ⌜ r ≡ readOffset machine sale (now (store .entry)) ⌝ }
 {
     let at = locate(store, machine, sale);
     match at {

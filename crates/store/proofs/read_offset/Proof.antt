@@ -1,6 +1,6 @@
 use native.Mathlib.Omega.{arith}
 use Rattle.cells.proofs.Form.{form-of}
-use Rattle.store.specs.Store.{readCall}
+use Rattle.store.specs.Store.{readOffset}
 use Rattle.store.proofs.Sought.{cell-inside}
 use Rattle.store.proofs.Calls.{located, located-formed, located-present, located-judged, unlocated-judged}
 use borrow.Author.Needs.{needs}
@@ -42,7 +42,7 @@ enum-known-at-2 c = search needs
 
 -- src/lib.rt:139:1
 returns : tie.Need-returns
-unfolding readCall
+unfolding readOffset
 returns c =
     let e = c .before .before .before .locate .ensures in
     let q = c .before .at .given .1 in
@@ -50,7 +50,7 @@ returns c =
 
 -- src/lib.rt:139:1
 returns-2 : tie.Need-returns-2
-unfolding readCall
+unfolding readOffset
 returns-2 c = unlocated-judged _ _ _ (c .before .before .before .locate .ensures) (c .before .at2 .given .1) _
 
 pub read-offset-spec : {M : Type 1} → statement M
