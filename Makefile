@@ -24,20 +24,12 @@ dist: $(archive) $(wide) ## proves, and leaves both archives, the header and pkg
 	@tools/make-dist.sh $(archive) $(wide)
 	@echo "dist: the archive, the header and a pkg-config file are in dist/, the archive for x86-64-v3 in dist/x86-64-v3/"
 
-# $(call compile,WORDS): proves and compiles with the kit that kit.sh makes by these words.
-define compile
+# The prover proves one crate after the other where it compiles, so what calmbaize stands on is proved
+# first, on all cores. One call of the compiler then makes both archives.
+$(archive) $(wide) &: $(sources) tools/kit.sh tools/compile.sh
 	$(if $(no_prover),$(error $(no_prover)))
-	@RATTLE_HOME=$$(tools/kit.sh $(1)) && export RATTLE_HOME && tools/prove.sh staticlib calmbaize
-endef
-
-# The prover writes both archives to one place, so the wide one comes first and is moved away.
-$(archive): $(wide)
-	$(call compile,target/kit)
-
-$(wide): $(sources) tools/kit.sh tools/compile.sh
-	$(call compile,target/kit-wide wide)
-	@mkdir -p $(@D)
-	@mv $(archive) $@
+	@tools/prove.sh check $$(sed -n 's/^calmbaize: *//p' crates.txt)
+	@RATTLE_HOME=$$(tools/kit.sh target/kit $(wide)) && export RATTLE_HOME && tools/prove.sh staticlib calmbaize
 
 tool: dist ## builds the command line tool
 	@tools/need.sh cargo cargo

@@ -2,9 +2,10 @@
 # Makes a folder that stands for the prover's kit and differs from it in one thing: its compiler is
 # compile.sh, which gives the kit's own one more options. Prints the folder's path, for RATTLE_HOME.
 #
-# usage: kit.sh FOLDER [wide]
+# usage: kit.sh FOLDER WIDE
 #
-# By wide the archive is for x86-64-v3, processors with AVX2; else it is for every x86-64.
+# WIDE is where the compiler leaves the archive for x86-64-v3, processors with AVX2, beside the one for
+# every x86-64 that the prover asks for.
 set -eu
 
 rt=$(readlink -f "$(command -v rt)")
@@ -22,7 +23,8 @@ if [ ! -x "$home/$bin/clang" ]; then
     exit 2
 fi
 compile=$(cd "$(dirname "$0")" && pwd)/compile.sh
-kind=${2:-baseline}
+mkdir -p "$(dirname "$2")"
+wide=$(cd "$(dirname "$2")" && pwd)/${2##*/}
 
 # linked FOLDER BUT: links what stands in that folder of the kit, but for one name.
 linked() {
@@ -41,7 +43,7 @@ linked "$own/toolchain" bin
 linked "$bin" clang
 cat >"$bin/clang" <<CLANG
 #!/bin/sh
-exec '$compile' '$home/$bin' '$kind' "\$@"
+exec '$compile' '$home/$bin' '$wide' "\$@"
 CLANG
 chmod +x "$bin/clang"
 pwd -P

@@ -5,10 +5,21 @@
 # usage: prove.sh WORDS...
 #
 # WORDS go to rt: prove.sh staticlib calmbaize
+#
+# RT_JOBS says how many checks run at a time; six for each core if it is not set.
 set -u
 
 tools=$(dirname "$0")
 "$tools/need.sh" rt '' || exit 2
+# rt starts so many checks, and the next ones when all of them have ended: with one for each core some
+# cores wait for the slowest. A check takes up to 1 GB.
+if [ -z "${RT_JOBS:-}" ]; then
+    RT_JOBS=$((6 * $(nproc)))
+    gigabytes=$(awk '/^MemAvailable:/ { print int($2 / 1024 / 1024) }' /proc/meminfo)
+    [ "$RT_JOBS" -le "$gigabytes" ] || RT_JOBS=$gigabytes
+    [ "$RT_JOBS" -ge 1 ] || RT_JOBS=1
+    export RT_JOBS
+fi
 work=$(mktemp -d)
 trap 'rm -rf "$work"' EXIT
 
