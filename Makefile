@@ -45,7 +45,7 @@ test: ## the gate: layout, the round as printed, proofs, must-fail edits, and th
 planted: tools ## the outside checks, seen to fail on faulty libraries, headers and programs
 	@tools/planted.sh
 
-bench: dist ## measures, and writes docs/BENCHMARKS.md
+bench: dist ## measures, writes docs/BENCHMARKS.md and the table and picture beside it, and says what got worse
 	@tools/need.sh cargo cargo
 	@tools/need.sh pkg:libsodium-dev libsodium-dev
 	@cd rust && cargo run --offline --release --quiet --package bench -- --docs ../docs $(if $(wildcard target/gate.times),--gate ../target/gate.times)

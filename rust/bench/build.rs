@@ -1,5 +1,5 @@
 //! Copies the library's archive for x86-64-v3 under names of its own, so that one program links both
-//! archives. Where there is none, the benchmarks do without.
+//! archives. Where there is none, the benchmarks do without. Tells the program the compilers' versions.
 
 use std::path::{Path, PathBuf};
 use std::process::Command;
@@ -17,6 +17,7 @@ fn main() {
     let found = archive.is_file();
     let watched = if found { &archive } else { &folder };
     println!("cargo::rerun-if-changed={}", watched.display());
+    versions();
     let wanted = env::var_os("CARGO_FEATURE_ARCHIVE").is_some();
     if wanted && found && variable("CARGO_CFG_TARGET_ARCH") == "x86_64" {
         link(&archive, &header);
@@ -47,6 +48,30 @@ fn calls(header: &str) -> impl Iterator<Item = &str> {
     let declared = header.lines();
     let declared = declared.filter_map(|line| line.strip_prefix("uint64_t calmbaize_"));
     declared.filter_map(|call| call.split_once('(').map(|(name, _)| name))
+}
+
+/// Tells the versions of the compilers that rust/baseline and cargo take; nothing for one that is missing.
+fn versions() {
+    println!("cargo::rerun-if-env-changed=CC");
+    println!("cargo::rerun-if-env-changed=PATH");
+    let compiler = env::var("CC").unwrap_or_else(|_| "cc".into());
+    // Asked by -v, a C compiler gives its own name and not the one that it was called by.
+    for (name, program, word) in [
+        ("CC", compiler.as_str(), "-v"),
+        ("CLANG", "clang", "-v"),
+        ("RUSTC", &variable("RUSTC"), "--version"),
+    ] {
+        let output = Command::new(program).arg(word).output();
+        let printed = output.map_or(Vec::new(), |output| [output.stdout, output.stderr].concat());
+        let printed = String::from_utf8_lossy(&printed);
+        let mut lines = printed.lines().filter(|line| names_version(line));
+        let version = lines.next().unwrap_or_default().trim();
+        println!("cargo::rustc-env=BENCH_{name}={version}");
+    }
+}
+
+fn names_version(line: &str) -> bool {
+    line.contains(" version ") || line.starts_with("rustc ")
 }
 
 fn variable(name: &str) -> String {

@@ -1,15 +1,17 @@
-//! What is measured: implementations, settings, calls and lengths.
+//! What is measured: who makes the calls, with which settings and sizes.
 
-use crate::buffer::Buffer;
+use crate::calls;
 use crate::measure::Case;
-use crate::sealing::SealOpen;
 use crate::sodium::Sodium;
+use crate::stores;
 use crate::table::grouped;
 use reference::{MRO, OPP};
 use std::fmt;
 
 /// Message lengths in bytes. The first is a sale record.
 pub const LENGTHS: [usize; 5] = [13, 128, 1024, 4096, 65_536];
+/// The longest messages.
+pub const LONG: Size = Size::Bytes(65_536);
 
 /// The key of every case.
 pub const KEY: [u8; 32] = [0x42; 32];
@@ -29,7 +31,7 @@ pub enum Implementation {
     WideRun,
     ScalarC,
     ScalarCRun,
-    /// OPP alone.
+    /// OPP alone, from a run.
     Avx2C,
     /// The same source, by clang.
     Avx2Clang,
@@ -44,27 +46,51 @@ impl Implementation {
         let in_opp_alone = matches!(self, Self::Avx2C | Self::Avx2Clang);
         !in_opp_alone || setting.is_some_and(|(mode, _)| mode == OPP)
     }
-}
 
-impl fmt::Display for Implementation {
-    fn fmt(&self, f: &mut fmt::Formatter<'_>) -> fmt::Result {
-        f.write_str(match self {
-            Self::Library => "Calmbaize",
-            Self::LibraryRun => "Calmbaize, run",
-            Self::Wide => "Calmbaize, x86-64-v3",
-            Self::WideRun => "Calmbaize, x86-64-v3, run",
-            Self::ScalarC => "scalar C",
-            Self::ScalarCRun => "scalar C, run",
-            Self::Avx2C => "AVX2 C",
-            Self::Avx2Clang => "AVX2 C, clang",
-            Self::Reference => "second implementation",
-            Self::XChaCha => "XChaCha20-Poly1305",
-            Self::AesGcm => "AES-256-GCM",
-        })
+    /// Whether only a processor with AVX2 runs it.
+    pub fn needs_avx2(self) -> bool {
+        matches!(
+            self,
+            Self::Wide | Self::WideRun | Self::Avx2C | Self::Avx2Clang
+        )
+    }
+
+    /// Whether it is a cipher of its own, which has no mode and no rounds.
+    pub fn is_cipher(self) -> bool {
+        matches!(self, Self::XChaCha | Self::AesGcm)
+    }
+
+    /// Whose it is, on which archive and by which engine.
+    pub fn parts(self) -> [&'static str; 3] {
+        match self {
+            Self::Library => ["Calmbaize", BASELINE, STEPPING],
+            Self::LibraryRun => ["Calmbaize", BASELINE, "run"],
+            Self::Wide => ["Calmbaize", "x86-64-v3", STEPPING],
+            Self::WideRun => ["Calmbaize", "x86-64-v3", "run"],
+            Self::ScalarC => ["scalar C", "", STEPPING],
+            Self::ScalarCRun => ["scalar C", "", "run"],
+            Self::Avx2C => ["AVX2 C", "", ""],
+            Self::Avx2Clang => ["AVX2 C by clang", "", ""],
+            Self::Reference => ["second implementation", "", ""],
+            Self::XChaCha => ["XChaCha20-Poly1305", "", ""],
+            Self::AesGcm => ["AES-256-GCM", "", ""],
+        }
     }
 }
 
-/// Mode and round count; libsodium's ciphers have none.
+/// What a name does not say: the archive for every x86-64, and the engine that has no other name.
+const BASELINE: &str = "baseline";
+const STEPPING: &str = "stepping";
+
+impl fmt::Display for Implementation {
+    fn fmt(&self, f: &mut fmt::Formatter<'_>) -> fmt::Result {
+        let said = |part: &&str| !["", BASELINE, STEPPING].contains(part);
+        let parts: Vec<&str> = self.parts().into_iter().filter(said).collect();
+        f.write_str(&parts.join(", "))
+    }
+}
+
+/// Mode and round count; libsodium's ciphers and the store have none.
 pub type Setting = Option<(u32, u32)>;
 
 /// The name of a mode.
@@ -77,136 +103,85 @@ pub fn mode_name(mode: u32) -> &'static str {
 }
 
 /// The name of a setting.
-pub fn setting_name(setting: Setting) -> String {
-    match setting {
-        Some((mode, rounds)) => format!("{}, {rounds} rounds", mode_name(mode)),
-        None => "libsodium".into(),
-    }
+pub fn setting_name((mode, rounds): (u32, u32)) -> String {
+    format!("{}, {rounds} rounds", mode_name(mode))
 }
 
-/// Every mode with every round count.
-pub fn settings() -> Vec<Setting> {
-    reference::settings().map(Some).collect()
-}
-
-/// How a sale record is sealed.
-pub const SALE: Setting = Some((MRO, 6));
-
-/// Which call is made.
+/// How much a call is given: a message's bytes, or a store's cells.
 #[derive(Clone, Copy, Debug, PartialEq, Eq)]
-pub enum Operation {
-    Seal,
-    Open,
-    /// Opening a parcel whose tag differs.
-    Refuse,
-    /// Opening a parcel of the old start.
-    OpenOld,
-    /// Converting a parcel of the old start.
-    Convert,
-    /// Converting a parcel of the new start, which is refused as done already.
-    ConvertDone,
-    /// Converting a parcel of the old start whose tag differs.
-    ConvertRefuse,
+pub enum Size {
+    Bytes(usize),
+    Cells(usize),
 }
 
-impl Operation {
-    /// Whether libsodium's ciphers have it, which have no old start.
-    fn is_of_sodium(self) -> bool {
-        matches!(self, Self::Seal | Self::Open | Self::Refuse)
+impl Size {
+    /// The same in bytes.
+    pub fn bytes(self) -> usize {
+        match self {
+            Self::Bytes(bytes) => bytes,
+            Self::Cells(cells) => cells * stores::CELL,
+        }
     }
 }
 
-impl fmt::Display for Operation {
+impl fmt::Display for Size {
     fn fmt(&self, f: &mut fmt::Formatter<'_>) -> fmt::Result {
-        f.write_str(match self {
-            Self::Seal => "seal",
-            Self::Open => "open",
-            Self::Refuse => "open, refused",
-            Self::OpenOld => "open, old start",
-            Self::Convert => "convert",
-            Self::ConvertDone => "convert, done already",
-            Self::ConvertRefuse => "convert, refused",
-        })
+        match self {
+            Self::Bytes(bytes) => write!(f, "{} bytes", grouped(*bytes)),
+            Self::Cells(cells) => write!(f, "{} cells", grouped(*cells)),
+        }
     }
 }
-
-/// Which calls are made.
-pub const OPERATIONS: [Operation; 7] = [
-    Operation::Seal,
-    Operation::Open,
-    Operation::Refuse,
-    Operation::OpenOld,
-    Operation::Convert,
-    Operation::ConvertDone,
-    Operation::ConvertRefuse,
-];
 
 /// A case's name.
 #[derive(Clone, Copy, Debug, PartialEq, Eq)]
 pub struct Key {
     pub implementation: Implementation,
     pub setting: Setting,
-    pub operation: Operation,
-    pub len: usize,
+    /// A name in the table of calls, or in that of the store's.
+    pub call: &'static str,
+    pub size: Size,
+}
+
+impl Key {
+    /// That of a call by its name.
+    pub fn new(
+        implementation: Implementation,
+        setting: Setting,
+        call: &'static str,
+        size: Size,
+    ) -> Self {
+        Self {
+            implementation,
+            setting,
+            call,
+            size,
+        }
+    }
 }
 
 impl fmt::Display for Key {
     fn fmt(&self, f: &mut fmt::Formatter<'_>) -> fmt::Result {
-        let (setting, len) = (setting_name(self.setting), grouped(self.len));
-        write!(f, "{setting}, {}, {len} bytes", self.operation)
-    }
-}
-
-/// What a call answers where the tag differs. Else it answers the bytes written, or another number
-/// from 2^32 on.
-pub const TAG_DIFFERS: u64 = 9 << 32;
-/// What a conversion answers where the parcel is of the new start.
-const DONE_ALREADY: u64 = 17 << 32;
-
-/// The case of `key`. `run` takes true to seal and false to open or convert, the input and the
-/// output.
-pub fn case(
-    key: Key,
-    tag_len: usize,
-    mut run: impl FnMut(bool, &[u8], &mut [u8]) -> u64 + 'static,
-) -> Case<Key> {
-    let message = Buffer::filled(0x5a, key.len);
-    let mut parcel = Buffer::filled(0, key.len + tag_len);
-    run(true, &message, &mut parcel);
-    if matches!(key.operation, Operation::Refuse | Operation::ConvertRefuse) {
-        parcel[key.len] ^= 1;
-    }
-    let wanted = match key.operation {
-        Operation::Seal | Operation::Convert => parcel.len() as u64,
-        Operation::Open | Operation::OpenOld => message.len() as u64,
-        Operation::Refuse | Operation::ConvertRefuse => TAG_DIFFERS,
-        Operation::ConvertDone => DONE_ALREADY,
-    };
-    let sealing = key.operation == Operation::Seal;
-    let (input, mut output) = match key.operation {
-        Operation::Seal => (message, parcel),
-        Operation::Open | Operation::Refuse | Operation::OpenOld => (parcel, message),
-        Operation::Convert | Operation::ConvertDone | Operation::ConvertRefuse => {
-            let converted = Buffer::filled(0, parcel.len());
-            (parcel, converted)
+        write!(f, "{}: ", self.implementation)?;
+        if let Some(setting) = self.setting {
+            write!(f, "{}, ", setting_name(setting))?;
         }
-    };
-    let name = format!("{key}, {}", key.implementation);
-    Case::new(key, name, wanted, move || run(sealing, &input, &mut output))
+        write!(f, "{}, {}", self.call, self.size)
+    }
 }
 
-/// All cases, the empty message included. Those that are compared stand side by side.
-pub fn all(sodium: Option<&Sodium>) -> Vec<Case<Key>> {
+/// All cases that are wanted. Those that are compared stand side by side.
+pub fn all(sodium: Option<&Sodium>, wanted: &dyn Fn(Key) -> bool) -> Vec<Case> {
     let mut cases = Vec::new();
-    for operation in OPERATIONS {
+    for call in calls::all() {
         for len in [0].into_iter().chain(LENGTHS) {
-            for setting in settings() {
-                let all = SealOpen::all(operation).into_iter();
-                cases.extend(all.filter_map(|each| each.case(setting, operation, len)));
+            for setting in reference::settings() {
+                cases.extend(call.cases(setting, len, wanted));
             }
-            let sodium = sodium.iter().filter(|_| operation.is_of_sodium());
-            cases.extend(sodium.flat_map(|sodium| sodium.cases(operation, len)));
+            let sodium = sodium.iter();
+            cases.extend(sodium.flat_map(|sodium| sodium.cases(&call, len, wanted)));
         }
     }
+    cases.extend(stores::all(wanted));
     cases
 }

@@ -1,5 +1,6 @@
 //! Timing the cases in turn.
 
+use crate::cases::Key;
 use crate::counter::count;
 use std::hint::black_box;
 use std::time::Instant;
@@ -7,24 +8,18 @@ use std::time::Instant;
 /// A batch of calls takes about this many cycles or more, well above the cost of the two readings.
 const BATCH_CYCLES: u64 = 100_000;
 
-/// A case: its key, its name, the call it measures and what that has to answer.
-pub struct Case<K> {
-    key: K,
-    name: String,
+/// A case: its key, the call it measures and what that has to answer.
+pub struct Case {
+    key: Key,
     wanted: u64,
     call: Box<dyn FnMut() -> u64>,
 }
 
-impl<K> Case<K> {
-    /// The case of `key`. The name is said where the call does not answer what is wanted.
-    pub fn new(key: K, name: String, wanted: u64, call: impl FnMut() -> u64 + 'static) -> Self {
+impl Case {
+    /// The case of `key`, which is said where the call does not answer what is wanted.
+    pub fn new(key: Key, wanted: u64, call: impl FnMut() -> u64 + 'static) -> Self {
         let call = Box::new(call);
-        Self {
-            key,
-            name,
-            wanted,
-            call,
-        }
+        Self { key, wanted, call }
     }
 
     /// Makes the call, and tells whether it answered what it has to.
@@ -34,15 +29,20 @@ impl<K> Case<K> {
 }
 
 /// The cycles per call of every case, batch by batch.
-pub struct Samples<K> {
-    series: Vec<(K, Vec<f64>)>,
+pub struct Samples {
+    series: Vec<(Key, Vec<f64>)>,
 }
 
-impl<K: Copy + PartialEq> Samples<K> {
+impl Samples {
     /// Samples that nothing was timed for.
     #[cfg(test)]
-    pub fn made_up(series: Vec<(K, Vec<f64>)>) -> Self {
+    pub fn made_up(series: Vec<(Key, Vec<f64>)>) -> Self {
         Self { series }
+    }
+
+    /// What was timed.
+    pub fn keys(&self) -> impl Iterator<Item = Key> + '_ {
+        self.series.iter().map(|(key, _)| *key)
     }
 
     /// Times `batches` batches of every case. The cases take turns, so that what slows the machine
@@ -51,9 +51,9 @@ impl<K: Copy + PartialEq> Samples<K> {
     /// # Errors
     ///
     /// The case of a call that does not answer what it has to.
-    pub fn take(cases: &mut [Case<K>], batches: usize) -> Result<Self, String> {
+    pub fn take(cases: &mut [Case], batches: usize) -> Result<Self, String> {
         let sizes: Vec<u64> = cases.iter_mut().map(batch_size).collect::<Result<_, _>>()?;
-        let mut series: Vec<(K, Vec<f64>)> =
+        let mut series: Vec<(Key, Vec<f64>)> =
             cases.iter().map(|case| (case.key, Vec::new())).collect();
         let begin = Instant::now();
         for batch in 1..=batches {
@@ -68,19 +68,19 @@ impl<K: Copy + PartialEq> Samples<K> {
         Ok(Self { series })
     }
 
-    fn of(&self, key: K) -> Option<&[f64]> {
+    fn of(&self, key: Key) -> Option<&[f64]> {
         let found = self.series.iter().find(|(k, _)| *k == key);
         found.map(|(_, samples)| samples.as_slice())
     }
 
     /// The median cycles per call.
-    pub fn cycles(&self, key: K) -> Option<f64> {
+    pub fn cycles(&self, key: Key) -> Option<f64> {
         self.of(key).map(|samples| median(samples.to_vec()))
     }
 
     /// The median, over the batches, of one case's time by the sum of others'. One that is named
     /// twice counts twice.
-    pub fn ratio(&self, key: K, by: &[K]) -> Option<f64> {
+    pub fn ratio(&self, key: Key, by: &[Key]) -> Option<f64> {
         let by: Vec<&[f64]> = by.iter().map(|&key| self.of(key)).collect::<Option<_>>()?;
         let sum = |batch: usize| by.iter().map(|samples| samples[batch]).sum::<f64>();
         let times = self.of(key)?.iter().enumerate();
@@ -88,19 +88,9 @@ impl<K: Copy + PartialEq> Samples<K> {
             times.map(|(batch, time)| time / sum(batch)).collect(),
         ))
     }
-
-    /// The median of one case's time by another's, both without that of a third.
-    pub fn ratio_above(&self, key: K, by: K, floor: K) -> Option<f64> {
-        let triples = self.of(key)?.iter().zip(self.of(by)?).zip(self.of(floor)?);
-        Some(median(
-            triples
-                .map(|((a, b), floor)| (a - floor) / (b - floor))
-                .collect(),
-        ))
-    }
 }
 
-fn batch_size<K>(case: &mut Case<K>) -> Result<u64, String> {
+fn batch_size(case: &mut Case) -> Result<u64, String> {
     let mut cycles = u64::MAX;
     for _ in 0..5 {
         cycles = cycles.min(time(case, 1)?);
@@ -109,14 +99,14 @@ fn batch_size<K>(case: &mut Case<K>) -> Result<u64, String> {
 }
 
 /// The cycles of `calls` calls, after one that brings code and buffers into the caches.
-fn time<K>(case: &mut Case<K>, calls: u64) -> Result<u64, String> {
+fn time(case: &mut Case, calls: u64) -> Result<u64, String> {
     let mut sound = case.make();
     let begin = count();
     for _ in 0..calls {
         sound &= case.make();
     }
     let cycles = count() - begin;
-    let name = &case.name;
+    let name = case.key;
     sound
         .then_some(cycles)
         .ok_or_else(|| format!("{name}: a timed call does not answer what it has to"))
@@ -130,18 +120,21 @@ fn median(mut values: Vec<f64>) -> f64 {
 #[cfg(test)]
 mod tests {
     use super::*;
+    use crate::cases::{Implementation, Size};
 
     #[test]
     fn a_ratio_is_by_the_sum_of_the_others_in_the_same_batch() {
+        let [whole, one, other, none] = [1, 2, 3, 4]
+            .map(|len| Key::new(Implementation::Library, None, "seal", Size::Bytes(len)));
         let samples = Samples::made_up(vec![
-            ("whole", vec![30.0, 4.0, 60.0]),
-            ("one", vec![10.0, 1.0, 5.0]),
-            ("other", vec![5.0, 2.0, 15.0]),
+            (whole, vec![30.0, 4.0, 60.0]),
+            (one, vec![10.0, 1.0, 5.0]),
+            (other, vec![5.0, 2.0, 15.0]),
         ]);
-        assert_eq!(samples.ratio("whole", &["one"]), Some(4.0));
-        assert_eq!(samples.ratio("whole", &["one", "other"]), Some(2.0));
-        assert_eq!(samples.ratio("whole", &["one", "one", "other"]), Some(1.2));
-        assert_eq!(samples.ratio("whole", &["one", "none"]), None);
-        assert_eq!(samples.ratio("none", &["one"]), None);
+        assert_eq!(samples.ratio(whole, &[one]), Some(4.0));
+        assert_eq!(samples.ratio(whole, &[one, other]), Some(2.0));
+        assert_eq!(samples.ratio(whole, &[one, one, other]), Some(1.2));
+        assert_eq!(samples.ratio(whole, &[one, none]), None);
+        assert_eq!(samples.ratio(none, &[one]), None);
     }
 }

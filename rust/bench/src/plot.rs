@@ -1,9 +1,8 @@
 //! The picture: cycles per byte over length, both scales logarithmic, two panels for each mode: its
 //! round counts, and the engines and archives with the fewest rounds.
 
-use crate::cases::{
-    mode_name, setting_name, settings, Implementation, Key, Operation, Setting, LENGTHS,
-};
+use crate::calls::SEAL;
+use crate::cases::{mode_name, setting_name, Implementation, Key, Setting, Size, LENGTHS};
 use crate::measure::Samples;
 use crate::paper;
 use crate::table::grouped;
@@ -39,7 +38,7 @@ struct Line {
 }
 
 /// The picture of sealing, as SVG.
-pub fn svg(samples: &Samples<Key>) -> String {
+pub fn svg(samples: &Samples) -> String {
     let panels = MODES.map(|mode| {
         let name = mode_name(mode);
         [
@@ -81,11 +80,11 @@ fn panel(svg: &mut String, name: &str, lines: &[Line]) {
 }
 
 /// A mode with each round count, and libsodium's ciphers.
-fn by_rounds(samples: &Samples<Key>, mode: u32) -> Vec<Line> {
+fn by_rounds(samples: &Samples, mode: u32) -> Vec<Line> {
     let mut lines = Vec::new();
     let mut add = |implementation: Implementation, setting, colour, dashed| {
         let name = match setting {
-            Some(_) => format!("{}, {implementation}", setting_name(setting)),
+            Some(setting) => format!("{}, {implementation}", setting_name(setting)),
             None => implementation.to_string(),
         };
         lines.push(Line {
@@ -95,8 +94,8 @@ fn by_rounds(samples: &Samples<Key>, mode: u32) -> Vec<Line> {
             points: points(samples, implementation, setting),
         });
     };
-    let of_mode = |setting: &Setting| setting.is_some_and(|(m, _)| m == mode);
-    for (i, setting) in settings().into_iter().filter(of_mode).enumerate() {
+    let of_mode = reference::settings().filter(|&(m, _)| m == mode);
+    for (i, setting) in of_mode.map(Some).enumerate() {
         let colour = COLOURS[i % COLOURS.len()];
         add(Implementation::Library, setting, colour, false);
         add(Implementation::ScalarC, setting, colour, true);
@@ -107,8 +106,8 @@ fn by_rounds(samples: &Samples<Key>, mode: u32) -> Vec<Line> {
 }
 
 /// A mode with one round count: the engines on both archives, what is written by hand, the paper's.
-fn by_engines(samples: &Samples<Key>, mode: u32) -> Vec<Line> {
-    let setting = Some((mode, ROUNDS));
+fn by_engines(samples: &Samples, mode: u32) -> Vec<Line> {
+    let setting = (mode, ROUNDS);
     let shown = [
         (Implementation::Library, COLOURS[0], false),
         (Implementation::LibraryRun, COLOURS[1], false),
@@ -122,11 +121,10 @@ fn by_engines(samples: &Samples<Key>, mode: u32) -> Vec<Line> {
         name: implementation.to_string(),
         colour,
         dashed,
-        points: points(samples, implementation, setting),
+        points: points(samples, implementation, Some(setting)),
     });
     let mut lines = Vec::from(lines);
-    let paper = paper::avx2(setting).and_then(|figure| figure.parse().ok());
-    lines.extend(paper.map(|figure| Line {
+    lines.extend(paper::avx2(setting).map(|figure| Line {
         name: "the paper's AVX2".into(),
         colour: OTHERS[1],
         dashed: true,
@@ -135,20 +133,9 @@ fn by_engines(samples: &Samples<Key>, mode: u32) -> Vec<Line> {
     lines
 }
 
-fn points(
-    samples: &Samples<Key>,
-    implementation: Implementation,
-    setting: Setting,
-) -> Vec<(f64, f64)> {
-    let operation = Operation::Seal;
-    let cycles = |len| {
-        samples.cycles(Key {
-            implementation,
-            setting,
-            operation,
-            len,
-        })
-    };
+fn points(samples: &Samples, implementation: Implementation, setting: Setting) -> Vec<(f64, f64)> {
+    let key = |len| Key::new(implementation, setting, SEAL, Size::Bytes(len));
+    let cycles = |len| samples.cycles(key(len));
     let lengths = LENGTHS.into_iter();
     lengths
         .filter_map(|len| cycles(len).map(|cycles| (len as f64, cycles / len as f64)))

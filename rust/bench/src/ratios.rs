@@ -1,145 +1,222 @@
-//! The ratios of times that have a bound.
+//! The ratios of times that have a bound, and those that have an aim beside it.
+//!
+//! A bound guards against a fall: above it the benchmarks fail. An aim is what is hoped for: it is
+//! shown as reached or not, and fails nothing.
 
-use crate::cases::Operation::{Convert, ConvertDone, ConvertRefuse, Open, OpenOld, Refuse, Seal};
-use crate::cases::{settings, Implementation, Key, Operation, Setting, SALE};
+use crate::calls::{CONVERT, CONVERT_DONE, CONVERT_REFUSED, OPEN, OPEN_OLD, OPEN_REFUSED, SEAL};
+use crate::cases::Implementation::{
+    Avx2C, Avx2Clang, Library, LibraryRun, ScalarC, WideRun, XChaCha,
+};
+use crate::cases::Size::{Bytes, Cells};
+use crate::cases::{Implementation, Key, Setting, Size, LONG};
 use crate::measure::Samples;
-use crate::stores::{StoreKey, CALLS, CELLS};
+use crate::stores::{CANCEL, READ, SIZES, TAKE, TOTAL};
 use crate::wide;
 use reference::{MRO, OPP};
 use std::fmt;
 
-/// What a call of the library is held against.
+/// Calls of an implementation, what their time is held against, the most that it may be of that, and
+/// the most that it is hoped to be.
+pub struct Bound {
+    of: Implementation,
+    calls: &'static [&'static str],
+    over: Over,
+    sizes: &'static [Size],
+    by: By,
+    pub most: f64,
+    pub aim: Option<f64>,
+    /// What else there is to say about it.
+    pub note: &'static str,
+}
+
+/// With which settings.
+#[derive(Clone, Copy)]
+enum Over {
+    All,
+    Opp,
+    /// Both modes with twelve rounds.
+    Twelve,
+    /// As a sale record is sealed.
+    Sale,
+    /// A store has none.
+    Store,
+}
+
+/// What a time is held against.
 #[derive(Clone, Copy)]
 enum By {
-    /// The same call of the scalar C version.
-    ScalarC,
-    /// Its own sealing of as many bytes.
-    Seal,
-    /// Its own opening of as many bytes, of a parcel of the new start.
-    Open,
-    /// Its own opening of as many bytes, of a parcel of the old start, twice, and its sealing.
-    OpenOldTwiceAndSeal,
-    /// Its own openings of as many bytes, of a parcel of each start.
-    OpenBoth,
+    /// The same call of another.
+    Who(Implementation),
+    /// Other calls with the same settings and size, their times added up.
+    Calls(&'static [&'static str]),
     /// The same call with so many rounds.
     Rounds(u32),
-    /// The same call of libsodium's cipher.
-    XChaCha,
+    /// The same call with another size.
+    Size(Size),
 }
 
-/// Calls of the library at one length, and the most that they may take of the other's time.
-struct Bound {
-    by: By,
-    settings: fn() -> Vec<Setting>,
-    operations: &'static [Operation],
-    len: usize,
-    most: f64,
-}
+/// Of read's bounds, which stand where the figures are: 1.31 and 9.55.
+const DUE: &str = "today's figure and a twentieth; due with card 7";
 
-const BOUNDS: [Bound; 7] = [
-    Bound {
-        by: By::ScalarC,
-        settings,
-        operations: &[Seal, Open],
-        len: 65_536,
-        most: 1.15,
-    },
-    Bound {
-        by: By::Seal,
-        settings,
-        operations: &[Open, Refuse],
-        len: 65_536,
-        most: 1.10,
-    },
-    Bound {
-        by: By::Open,
-        settings,
-        operations: &[OpenOld],
-        len: 65_536,
-        most: 1.05,
-    },
-    Bound {
-        by: By::OpenOldTwiceAndSeal,
-        settings,
-        operations: &[Convert],
-        len: 65_536,
-        most: 1.10,
-    },
-    Bound {
-        by: By::OpenBoth,
-        settings,
-        operations: &[ConvertDone, ConvertRefuse],
-        len: 65_536,
-        most: 1.10,
-    },
-    Bound {
-        by: By::Rounds(4),
-        settings: || vec![Some((OPP, 12)), Some((MRO, 12))],
-        operations: &[Seal, Open],
-        len: 65_536,
-        most: 3.10,
-    },
-    Bound {
-        by: By::XChaCha,
-        settings: || vec![SALE],
-        operations: &[Seal, Open],
-        len: 13,
-        most: 1.10,
-    },
+/// All bounds, a line each.
+#[rustfmt::skip]
+pub static BOUNDS: [Bound; 15] = [
+    of(Library, &[SEAL, OPEN]).by(By::Who(ScalarC), 1.15),
+    of(Library, &[OPEN, OPEN_REFUSED]).by(By::Calls(&[SEAL]), 1.10),
+    of(Library, &[OPEN_OLD]).by(By::Calls(&[OPEN]), 1.05),
+    // A conversion may write nothing before the parcel is known to open.
+    of(Library, &[CONVERT]).by(By::Calls(&[OPEN_OLD, OPEN_OLD, SEAL]), 1.10),
+    of(Library, &[CONVERT_DONE, CONVERT_REFUSED]).by(By::Calls(&[OPEN_OLD, OPEN]), 1.10),
+    of(Library, &[SEAL, OPEN]).over(Over::Twelve).by(By::Rounds(4), 3.10),
+    of(Library, &[SEAL, OPEN]).over(Over::Sale).with(&[Bytes(13)]).by(By::Who(XChaCha), 1.10),
+    of(LibraryRun, &[SEAL, OPEN]).by(By::Who(Library), 1.05),
+    of(WideRun, &[SEAL, OPEN]).by(By::Who(Library), 0.55).aim(0.45),
+    of(WideRun, &[SEAL, OPEN]).over(Over::Opp).by(By::Who(Avx2C), 1.15).aim(1.0),
+    of(WideRun, &[SEAL, OPEN]).over(Over::Opp).by(By::Who(Avx2Clang), 1.10).aim(1.0),
+    store(&[TAKE, CANCEL, TOTAL]).by(By::Who(ScalarC), 1.20),
+    store(&[READ]).by(By::Who(ScalarC), 1.38).note(DUE),
+    // Eight times the cells: linear and a tenth.
+    store(&[TAKE, CANCEL, TOTAL]).with(&[Cells(1024)]).by(By::Size(Cells(128)), 8.80),
+    store(&[READ]).with(&[Cells(1024)]).by(By::Size(Cells(128)), 10.03).note(DUE),
 ];
 
+/// Calls of an implementation with all settings and the longest messages.
+const fn of(of: Implementation, calls: &'static [&'static str]) -> Bound {
+    Bound {
+        of,
+        calls,
+        over: Over::All,
+        sizes: &[LONG],
+        by: By::Calls(&[]),
+        most: 0.0,
+        aim: None,
+        note: "",
+    }
+}
+
+/// The library's calls of the store.
+const fn store(calls: &'static [&'static str]) -> Bound {
+    of(Library, calls).over(Over::Store).with(&SIZES)
+}
+
 impl Bound {
-    fn ratios(&self, samples: &Samples<Key>) -> Vec<Ratio> {
-        let ratio = |setting, operation| {
-            let key = Key {
-                implementation: Implementation::Library,
-                setting,
-                operation,
-                len: self.len,
-            };
-            Ratio {
-                name: format!("{key}, by {}", self.by),
-                measured: samples.ratio(key, &self.by.keys(key)),
-                bound: self.most,
-            }
+    const fn over(mut self, over: Over) -> Self {
+        self.over = over;
+        self
+    }
+
+    const fn with(mut self, sizes: &'static [Size]) -> Self {
+        self.sizes = sizes;
+        self
+    }
+
+    const fn by(mut self, by: By, most: f64) -> Self {
+        self.by = by;
+        self.most = most;
+        self
+    }
+
+    const fn aim(mut self, aim: f64) -> Self {
+        self.aim = Some(aim);
+        self
+    }
+
+    const fn note(mut self, note: &'static str) -> Self {
+        self.note = note;
+        self
+    }
+
+    /// Whether there is what it compares: the archive for x86-64-v3 needs a processor that runs it,
+    /// and the AVX2 C by clang needs clang.
+    fn counts(&self) -> bool {
+        let who = match self.by {
+            By::Who(who) => who,
+            _ => self.of,
         };
-        let pairs = (self.settings)().into_iter().flat_map(|setting| {
-            let operations = self.operations.iter();
-            operations.map(move |&operation| (setting, operation))
-        });
-        pairs
-            .map(|(setting, operation)| ratio(setting, operation))
-            .collect()
+        let wide = self.of != WideRun || wide::missing().is_none();
+        let clang = who != Avx2Clang || wide::clang_missing().is_none();
+        cfg!(feature = "archive") && wide && clang
+    }
+
+    /// All its ratios.
+    fn ratios(&'static self, samples: &Samples) -> Vec<Ratio> {
+        let mut ratios = Vec::new();
+        for setting in self.over.settings() {
+            for &call in self.calls {
+                for &size in self.sizes {
+                    let key = Key::new(self.of, setting, call, size);
+                    ratios.push(Ratio {
+                        key,
+                        measured: samples.ratio(key, &self.by.keys(key)),
+                        bound: self,
+                    });
+                }
+            }
+        }
+        ratios
+    }
+
+    /// What is held, without who.
+    pub fn what(&self) -> String {
+        let calls = self.calls.join(", ");
+        let sizes = match self.sizes {
+            [least, .., most] => format!("{least} to {most}"),
+            sizes => sizes.iter().map(ToString::to_string).collect(),
+        };
+        match self.over.to_string() {
+            over if over.is_empty() => format!("{calls}; {sizes}"),
+            over => format!("{calls}; {over}; {sizes}"),
+        }
+    }
+
+    /// Whose it is, and against what it is held.
+    pub fn sides(&self) -> [String; 2] {
+        [self.of.to_string(), self.by.to_string()]
+    }
+}
+
+impl Over {
+    fn settings(self) -> Vec<Setting> {
+        let all = reference::settings();
+        match self {
+            Self::All => all.map(Some).collect(),
+            Self::Opp => all.filter(|&(mode, _)| mode == OPP).map(Some).collect(),
+            Self::Twelve => vec![Some((OPP, 12)), Some((MRO, 12))],
+            Self::Sale => vec![Some((MRO, 6))],
+            Self::Store => vec![None],
+        }
+    }
+}
+
+impl fmt::Display for Over {
+    fn fmt(&self, f: &mut fmt::Formatter<'_>) -> fmt::Result {
+        f.write_str(match self {
+            Self::All | Self::Store => "",
+            Self::Opp => "OPP",
+            Self::Twelve => "12 rounds",
+            Self::Sale => "MRO, 6 rounds",
+        })
     }
 }
 
 impl By {
     /// What the case of `key` is held against: the sum of these.
     fn keys(self, key: Key) -> Vec<Key> {
-        let own = |operations: &[Operation]| {
-            let operations = operations.iter();
-            operations
-                .map(|&operation| Key { operation, ..key })
-                .collect()
-        };
         match self {
-            Self::ScalarC => vec![Key {
-                implementation: Implementation::ScalarC,
-                ..key
-            }],
-            Self::Seal => own(&[Seal]),
-            Self::Open => own(&[Open]),
-            Self::OpenOldTwiceAndSeal => own(&[OpenOld, OpenOld, Seal]),
-            Self::OpenBoth => own(&[OpenOld, Open]),
-            Self::Rounds(rounds) => vec![Key {
-                setting: key.setting.map(|(mode, _)| (mode, rounds)),
-                ..key
-            }],
-            Self::XChaCha => vec![Key {
-                implementation: Implementation::XChaCha,
-                setting: None,
-                ..key
-            }],
+            Self::Who(implementation) => {
+                let setting = key.setting.filter(|_| !implementation.is_cipher());
+                vec![Key {
+                    implementation,
+                    setting,
+                    ..key
+                }]
+            }
+            Self::Calls(calls) => calls.iter().map(|&call| Key { call, ..key }).collect(),
+            Self::Rounds(rounds) => {
+                let setting = key.setting.map(|(mode, _)| (mode, rounds));
+                vec![Key { setting, ..key }]
+            }
+            Self::Size(size) => vec![Key { size, ..key }],
         }
     }
 }
@@ -147,288 +224,242 @@ impl By {
 impl fmt::Display for By {
     fn fmt(&self, f: &mut fmt::Formatter<'_>) -> fmt::Result {
         match self {
-            Self::ScalarC => Implementation::ScalarC.fmt(f),
-            Self::Seal => Seal.fmt(f),
-            Self::Open => Open.fmt(f),
-            Self::OpenOldTwiceAndSeal => f.write_str("two opens of the old start and a seal"),
-            Self::OpenBoth => f.write_str("an open of each start"),
+            Self::Who(who) => who.fmt(f),
+            Self::Calls(calls) => f.write_str(&calls.join(" + ")),
             Self::Rounds(rounds) => write!(f, "{rounds} rounds"),
-            Self::XChaCha => Implementation::XChaCha.fmt(f),
+            Self::Size(size) => size.fmt(f),
         }
     }
-}
-
-/// How long the messages are by which engines and archives are compared.
-pub const ENGINES_LEN: usize = 65_536;
-
-/// The calls by which they are.
-pub fn engine_calls() -> impl Iterator<Item = (Setting, Operation)> {
-    let settings = settings().into_iter();
-    settings.flat_map(|setting| [Seal, Open].map(|operation| (setting, operation)))
-}
-
-/// An engine of an archive, and the most that it may take of another implementation's time.
-pub struct EngineBound {
-    implementation: Implementation,
-    by: Implementation,
-    pub most: f64,
-}
-
-/// In every mode and round count that both have.
-pub const ENGINES: [EngineBound; 4] = [
-    EngineBound {
-        implementation: Implementation::LibraryRun,
-        by: Implementation::Library,
-        most: 1.05,
-    },
-    EngineBound {
-        implementation: Implementation::WideRun,
-        by: Implementation::Library,
-        most: 0.55,
-    },
-    EngineBound {
-        implementation: Implementation::WideRun,
-        by: Implementation::Avx2C,
-        most: 1.0,
-    },
-    EngineBound {
-        implementation: Implementation::WideRun,
-        by: Implementation::Avx2Clang,
-        most: 1.0,
-    },
-];
-
-impl EngineBound {
-    /// The ratio of a call, if both have the mode.
-    pub fn ratio(
-        &self,
-        samples: &Samples<Key>,
-        setting: Setting,
-        operation: Operation,
-    ) -> Option<Ratio> {
-        let key = |implementation| Key {
-            implementation,
-            setting,
-            operation,
-            len: ENGINES_LEN,
-        };
-        self.by.has(setting).then(|| Ratio {
-            name: format!("{}, {self}", key(self.implementation)),
-            measured: samples.ratio(key(self.implementation), &[key(self.by)]),
-            bound: self.most,
-        })
-    }
-
-    /// All of them. Where the archive for x86-64-v3 can't be measured, its bounds do not count, nor
-    /// do those by clang where that is missing.
-    fn ratios(&self, samples: &Samples<Key>) -> Vec<Ratio> {
-        let no_wide = self.implementation == Implementation::WideRun && wide::missing().is_some();
-        let no_clang = self.by == Implementation::Avx2Clang && wide::clang_missing().is_some();
-        if no_wide || no_clang {
-            return Vec::new();
-        }
-        engine_calls()
-            .filter_map(|(setting, operation)| self.ratio(samples, setting, operation))
-            .collect()
-    }
-}
-
-impl fmt::Display for EngineBound {
-    fn fmt(&self, f: &mut fmt::Formatter<'_>) -> fmt::Result {
-        write!(f, "{}, by {}", self.implementation, self.by)
-    }
-}
-
-/// The most that a call of the store may take of the scalar C version's time.
-const STORE_BY_SCALAR_C: f64 = 1.2;
-/// How much longer a call may take where there are eight times the cells: linear and a tenth.
-const STORE_GROWTH: f64 = 8.8;
-
-/// Each call of the library at each number of cells, and its growth to eight times as many.
-fn store_ratios(samples: &Samples<StoreKey>) -> Vec<Ratio> {
-    let mut ratios = Vec::new();
-    let mut add = |key: StoreKey, other: StoreKey, by: String, bound| {
-        ratios.push(Ratio {
-            name: format!("{key}, by {by}"),
-            measured: samples.ratio(key, &[other]),
-            bound,
-        });
-    };
-    let implementation = Implementation::ScalarC;
-    for call in CALLS {
-        for key in CELLS.map(|cells| StoreKey::library(call, cells)) {
-            let other = StoreKey {
-                implementation,
-                ..key
-            };
-            add(key, other, implementation.to_string(), STORE_BY_SCALAR_C);
-        }
-    }
-    for call in CALLS {
-        let [few, many] = [128, 1024].map(|cells| StoreKey::library(call, cells));
-        add(many, few, format!("{} cells", few.cells), STORE_GROWTH);
-    }
-    ratios
 }
 
 /// A ratio of a case's time to another's, or to the sum of others'. It is taken batch by batch, and
 /// its median counts.
 pub struct Ratio {
-    /// What is held against what.
-    pub name: String,
+    pub key: Key,
     /// What it is, where all its cases were measured.
     pub measured: Option<f64>,
-    /// The most that it may be.
-    pub bound: f64,
+    pub bound: &'static Bound,
 }
 
 impl Ratio {
-    /// All that have a bound, but for those between engines. Without the archive there is nothing to
-    /// hold against one.
-    pub fn all(samples: &Samples<Key>, stores: &Samples<StoreKey>) -> Vec<Self> {
-        if cfg!(feature = "archive") {
-            let sealing = BOUNDS.iter().flat_map(|bound| bound.ratios(samples));
-            sealing.chain(store_ratios(stores)).collect()
-        } else {
-            Vec::new()
-        }
+    /// All that can be measured, in the order of the bounds.
+    pub fn all(samples: &Samples) -> Vec<Self> {
+        let bounds = BOUNDS.iter().filter(|bound| bound.counts());
+        bounds.flat_map(|bound| bound.ratios(samples)).collect()
     }
 
-    /// Those between engines.
-    pub fn engines(samples: &Samples<Key>) -> Vec<Self> {
-        if cfg!(feature = "archive") {
-            let bounds = ENGINES.iter();
-            bounds.flat_map(|bound| bound.ratios(samples)).collect()
-        } else {
-            Vec::new()
-        }
+    /// What it is held against, by name.
+    pub fn by(&self) -> String {
+        self.bound.by.to_string()
     }
 
-    /// What is wrong with it, if anything is.
+    /// What it is held against: the sum of these.
+    fn others(&self) -> Vec<Key> {
+        self.bound.by.keys(self.key)
+    }
+
+    /// Whether it is above its bound. One that was not measured is too, since nothing tells that it
+    /// is not.
+    pub fn is_above(&self) -> bool {
+        !self.measured.is_some_and(|ratio| ratio <= self.bound.most)
+    }
+
+    /// Whether its aim is reached, where it has one.
+    pub fn reaches(&self) -> Option<bool> {
+        let aim = self.bound.aim?;
+        Some(self.measured.is_some_and(|ratio| ratio <= aim))
+    }
+
+    /// Whether a case has to be measured again with this one: its own and those that it is held
+    /// against, each among all cases of the same call and size, as it was before.
+    pub fn needs(&self, case: Key) -> bool {
+        let same = |key: &Key| (key.call, key.size) == (case.call, case.size);
+        same(&self.key) || self.others().iter().any(same)
+    }
+
+    /// What it is once it is measured again: the lesser. Noise makes one measurement worse, a fall all.
+    pub fn again(&mut self, samples: &Samples) {
+        let again = samples.ratio(self.key, &self.others());
+        let both = self.measured.into_iter().chain(again);
+        self.measured = both.min_by(f64::total_cmp);
+    }
+
+    /// What got worse, if it did.
     pub fn fault(&self) -> Option<String> {
-        let fault = fault(self.measured, self.bound)?;
-        Some(format!("{}: {fault}", self.name))
+        let (most, name) = (self.bound.most, format!("{}, by {}", self.key, self.by()));
+        self.is_above().then(|| match self.measured {
+            Some(ratio) => format!("got worse: {name}: {ratio:.3}, above its bound of {most:.2}"),
+            None => format!("not measured: {name}"),
+        })
     }
 }
 
-/// A ratio that was not measured is a fault too, since nothing then tells that it is in bounds.
-fn fault(ratio: Option<f64>, bound: f64) -> Option<String> {
-    match ratio {
-        Some(ratio) if ratio <= bound => None,
-        Some(ratio) => Some(format!("{ratio:.3} is above the bound of {bound:.2}")),
-        None => Some("not measured".into()),
+#[cfg(test)]
+impl Ratio {
+    /// All that have a bound, where the calls take these times.
+    pub fn made_up(time: impl Fn(Key) -> Option<f64>) -> Vec<Self> {
+        let nothing = Samples::made_up(Vec::new());
+        let ratios = BOUNDS.iter().flat_map(|bound| bound.ratios(&nothing));
+        let keys = ratios.flat_map(|ratio| [vec![ratio.key], ratio.others()].concat());
+        let series = keys.filter_map(|key| Some((key, vec![time(key)?])));
+        let samples = Samples::made_up(series.collect());
+        let bounds = BOUNDS.iter();
+        bounds.flat_map(|bound| bound.ratios(&samples)).collect()
     }
 }
 
 #[cfg(test)]
 mod tests {
     use super::*;
+    use crate::cases;
+    use std::cell::RefCell;
 
-    #[test]
-    fn ratios_above_their_bound_are_faults() {
-        assert_eq!(fault(Some(1.1), 1.1), None);
-        assert_eq!(fault(Some(0.2), 1.1), None);
-        for ratio in [Some(1.101), Some(f64::INFINITY), Some(f64::NAN), None] {
-            assert!(fault(ratio, 1.1).is_some(), "{ratio:?}");
+    fn ratio(measured: Option<f64>) -> Ratio {
+        let nothing = Samples::made_up(Vec::new());
+        let bound = BOUNDS.iter().find(|bound| bound.aim.is_some());
+        let bound = bound.expect("a bound with an aim");
+        let mut ratios = bound.ratios(&nothing);
+        Ratio {
+            measured,
+            ..ratios.remove(0)
         }
     }
 
-    /// How many bounds of conversions fail where the library's calls take these times.
-    fn faults_of_conversions(times: &[(Operation, f64)]) -> usize {
-        let series = settings().into_iter().flat_map(|setting| {
-            times.iter().map(move |&(operation, time)| {
-                let key = Key {
-                    implementation: Implementation::Library,
-                    setting,
-                    operation,
-                    len: 65_536,
-                };
-                (key, vec![time])
-            })
+    #[test]
+    fn ratios_above_their_bound_are_faults() {
+        for measured in [0.2, 0.55] {
+            assert_eq!(ratio(Some(measured)).fault(), None, "{measured}");
+        }
+        for measured in [Some(0.551), Some(f64::INFINITY), Some(f64::NAN), None] {
+            assert!(ratio(measured).fault().is_some(), "{measured:?}");
+        }
+    }
+
+    #[test]
+    fn of_two_measurements_the_lesser_counts() {
+        for (first, second, least) in [(0.7, 0.5, 0.5), (0.5, 0.7, 0.5), (f64::NAN, 0.5, 0.5)] {
+            let mut ratio = ratio(Some(first));
+            let others = ratio.others().into_iter().map(|key| (key, vec![1.0]));
+            let own = [(ratio.key, vec![second])];
+            let samples = Samples::made_up(own.into_iter().chain(others).collect());
+            ratio.again(&samples);
+            assert_eq!(ratio.measured, Some(least));
+        }
+    }
+
+    #[test]
+    fn every_ratio_is_of_cases_that_are_measured() {
+        let keys = RefCell::new(Vec::new());
+        cases::all(None, &|key| {
+            keys.borrow_mut().push(key);
+            false
         });
-        let samples = Samples::made_up(series.collect());
-        let ratios = BOUNDS.iter().flat_map(|bound| bound.ratios(&samples));
-        let conversions = ratios.filter(|ratio| ratio.name.contains("convert"));
-        conversions.filter_map(|ratio| ratio.fault()).count()
+        let keys = keys.into_inner();
+        let nothing = Samples::made_up(Vec::new());
+        for ratio in Ratio::all(&nothing) {
+            for key in [vec![ratio.key], ratio.others()].concat() {
+                let measured = key.implementation.is_cipher() || keys.contains(&key);
+                assert!(measured, "{key}");
+                assert!(ratio.needs(key), "{key}");
+            }
+        }
+    }
+
+    /// The bounds that are broken where the calls take these times, and by how many ratios.
+    fn broken(time: impl Fn(Key) -> Option<f64>) -> Vec<(String, usize)> {
+        let mut broken: Vec<(String, usize)> = Vec::new();
+        for ratio in Ratio::made_up(time).iter().filter(|ratio| ratio.is_above()) {
+            let name = format!("{} by {}", ratio.key.implementation, ratio.by());
+            match broken.iter_mut().find(|(known, _)| *known == name) {
+                Some((_, count)) => *count += 1,
+                None => broken.push((name, 1)),
+            }
+        }
+        broken
     }
 
     #[test]
     fn conversions_may_take_a_tenth_more_than_their_parts() {
-        let parts = [(Seal, 1000.0), (Open, 100.0), (OpenOld, 10.0)];
-        let each = settings().len();
-        for (convert, done, refuse, faults) in [
-            (1121.0, 120.0, 120.0, 0),
-            (1123.0, 120.0, 120.0, each),
-            (1121.0, 122.0, 120.0, each),
-            (1121.0, 120.0, 122.0, each),
+        let each = reference::settings().count();
+        let convert = "Calmbaize by open old start + open old start + seal";
+        let refuse = "Calmbaize by open old start + open";
+        for (times, faults) in [
+            ([1121.0, 120.0, 120.0], vec![]),
+            ([1123.0, 120.0, 120.0], vec![(convert.to_string(), each)]),
+            ([1121.0, 122.0, 120.0], vec![(refuse.to_string(), each)]),
+            ([1121.0, 120.0, 122.0], vec![(refuse.to_string(), each)]),
         ] {
-            let wholes = [
-                (Convert, convert),
-                (ConvertDone, done),
-                (ConvertRefuse, refuse),
-            ];
-            let times = [&parts[..], &wholes].concat();
-            assert_eq!(faults_of_conversions(&times), faults, "{wholes:?}");
+            let broken = broken(|key| match (key.implementation, key.call) {
+                (Library, SEAL) => Some(1000.0),
+                (Library, OPEN) => Some(100.0),
+                (Library, OPEN_OLD) => Some(10.0),
+                (Library, CONVERT) => Some(times[0]),
+                (Library, CONVERT_DONE) => Some(times[1]),
+                (Library, CONVERT_REFUSED) => Some(times[2]),
+                _ => None,
+            });
+            let of_conversions = broken.into_iter().filter(|(name, _)| name.contains(" + "));
+            assert_eq!(of_conversions.collect::<Vec<_>>(), faults, "{times:?}");
         }
-        assert_eq!(faults_of_conversions(&parts), 3 * each);
-    }
-
-    /// How many calls are above each bound of the engines where all take these times.
-    fn faults_of_engines(times: &[(Implementation, f64)]) -> [usize; 4] {
-        let series = engine_calls().flat_map(|(setting, operation)| {
-            times.iter().map(move |&(implementation, time)| {
-                let key = Key {
-                    implementation,
-                    setting,
-                    operation,
-                    len: ENGINES_LEN,
-                };
-                (key, vec![time])
-            })
-        });
-        let samples = Samples::made_up(series.collect());
-        ENGINES.each_ref().map(|bound| {
-            let ratios =
-                engine_calls().filter_map(|(setting, call)| bound.ratio(&samples, setting, call));
-            ratios.filter_map(|ratio| ratio.fault()).count()
-        })
     }
 
     #[test]
     fn engines_are_held_against_each_other_and_against_avx2() {
-        let (both, opp) = (engine_calls().count(), engine_calls().count() / 2);
+        let (both, opp) = (
+            2 * reference::settings().count(),
+            reference::settings().count(),
+        );
+        let named = |name: &str, count| vec![(name.to_string(), count)];
         for (run, wide_run, [avx2, by_clang], faults) in [
-            (105.0, 55.0, [55.0, 55.0], [0, 0, 0, 0]),
-            (106.0, 55.0, [55.0, 55.0], [both, 0, 0, 0]),
-            (105.0, 56.0, [56.0, 56.0], [0, both, 0, 0]),
-            (105.0, 55.0, [54.0, 55.0], [0, 0, opp, 0]),
-            (105.0, 55.0, [55.0, 54.0], [0, 0, 0, opp]),
+            (105.0, 55.0, [48.0, 50.0], vec![]),
+            (
+                106.0,
+                55.0,
+                [48.0, 50.0],
+                named("Calmbaize, run by Calmbaize", both),
+            ),
+            (
+                105.0,
+                56.0,
+                [49.0, 51.0],
+                named("Calmbaize, x86-64-v3, run by Calmbaize", both),
+            ),
+            (
+                105.0,
+                55.0,
+                [47.0, 50.0],
+                named("Calmbaize, x86-64-v3, run by AVX2 C", opp),
+            ),
+            (
+                105.0,
+                55.0,
+                [48.0, 49.0],
+                named("Calmbaize, x86-64-v3, run by AVX2 C by clang", opp),
+            ),
         ] {
-            let times = [
-                (Implementation::Library, 100.0),
-                (Implementation::LibraryRun, run),
-                (Implementation::WideRun, wide_run),
-                (Implementation::Avx2C, avx2),
-                (Implementation::Avx2Clang, by_clang),
-            ];
-            assert_eq!(faults_of_engines(&times), faults, "{times:?}");
+            let broken = broken(|key| match key.implementation {
+                LibraryRun => Some(run),
+                WideRun => Some(wide_run),
+                Avx2C => Some(avx2),
+                Avx2Clang => Some(by_clang),
+                _ => Some(100.0),
+            });
+            assert_eq!(broken, faults);
         }
-        assert_eq!(faults_of_engines(&[]), [both, both, opp, opp]);
     }
 
     #[test]
-    fn bounds_by_avx2_count_where_both_can_be_measured() {
+    fn bounds_count_where_both_sides_can_be_measured() {
         let nothing = Samples::made_up(Vec::new());
-        let faults = |by| {
-            let bounds = ENGINES.iter().filter(|bound| bound.by == by);
-            let ratios = bounds.flat_map(|bound| bound.ratios(&nothing));
-            ratios.filter_map(|ratio| ratio.fault()).count()
+        let ratios = Ratio::all(&nothing);
+        let counted = |by| {
+            let by_it = |ratio: &&Ratio| matches!(ratio.bound.by, By::Who(who) if who == by);
+            ratios.iter().filter(by_it).count()
         };
-        let wide = wide::missing().is_none();
+        let wide = cfg!(feature = "archive") && wide::missing().is_none();
         let clang = baseline::avx2_by_clang().is_some();
-        let opp = engine_calls().count() / 2;
-        assert_eq!(faults(Implementation::Avx2C), if wide { opp } else { 0 });
-        let counted = if wide && clang { opp } else { 0 };
-        assert_eq!(faults(Implementation::Avx2Clang), counted);
+        let opp = reference::settings().count();
+        assert_eq!(counted(Avx2C), if wide { opp } else { 0 });
+        assert_eq!(counted(Avx2Clang), if wide && clang { opp } else { 0 });
     }
 }

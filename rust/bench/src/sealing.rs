@@ -1,168 +1,55 @@
-//! The implementations of this construction, and how each is called.
+//! How the calls that seal, open and convert are made.
 
-use crate::buffer::Buffer;
-use crate::cases::{case, Implementation, Key, Operation, Setting, KEY, NONCE};
-use crate::measure::Case;
-use crate::wide;
+use crate::cases::{KEY, NONCE};
 use baseline::{RunSealing, Sealing};
-use reference::Start;
+use reference::{Refusal, Start};
 use std::ptr::null;
 
-/// An implementation: what seals the parcels, under one start, and what opens or converts them.
+/// How a call is made.
 #[derive(Clone, Copy)]
-pub enum SealOpen {
-    Foreign(Implementation, Sealing, Sealing),
-    /// With a lent buffer of words.
-    Run(Implementation, RunSealing, RunSealing),
-    Reference(Start),
+pub enum How {
+    /// A foreign call.
+    Step(Sealing),
+    /// One with a lent buffer of words.
+    Run(RunSealing),
+    /// A call of the second implementation, under a start.
+    Second(SecondCall, Start),
 }
 
-impl SealOpen {
-    /// All that have the operation.
-    pub fn all(operation: Operation) -> Vec<Self> {
-        match operation {
-            Operation::Seal | Operation::Open | Operation::Refuse => {
-                [Self::all_wide(), Self::all_new()].concat()
-            }
-            Operation::OpenOld => Self::all_old(),
-            Operation::Convert | Operation::ConvertRefuse => {
-                Self::all_converting(baseline::baseline_seal_old)
-            }
-            Operation::ConvertDone => Self::all_converting(baseline::baseline_seal),
-        }
-    }
+/// The type of the second implementation's calls.
+type SecondCall = fn(Start, u32, u32, [&[u8]; 4], &mut [u8]) -> Result<usize, Refusal>;
 
-    /// What only a processor with AVX2 runs.
-    fn all_wide() -> Vec<Self> {
-        if !wide::runs() {
-            return Vec::new();
-        }
-        let mut all = vec![
-            #[cfg(wide)]
-            Self::Foreign(Implementation::Wide, wide::wide_seal, wide::wide_open),
-            #[cfg(target_arch = "x86_64")]
-            Self::Run(
-                Implementation::Avx2C,
-                baseline::avx2_opp_seal_run,
-                baseline::avx2_opp_open_run,
-            ),
-            #[cfg(wide)]
-            Self::Run(
-                Implementation::WideRun,
-                wide::wide_seal_run,
-                wide::wide_open_run,
-            ),
-        ];
-        let by_clang = baseline::avx2_by_clang();
-        all.extend(by_clang.map(|(seal, open)| Self::Run(Implementation::Avx2Clang, seal, open)));
-        all
-    }
-
-    fn all_new() -> Vec<Self> {
-        vec![
-            #[cfg(feature = "archive")]
-            Self::Foreign(
-                Implementation::Library,
-                calmbaize::ffi::calmbaize_seal,
-                calmbaize::ffi::calmbaize_open,
-            ),
-            #[cfg(feature = "archive")]
-            Self::Run(
-                Implementation::LibraryRun,
-                calmbaize::ffi::calmbaize_seal_run,
-                calmbaize::ffi::calmbaize_open_run,
-            ),
-            Self::Foreign(
-                Implementation::ScalarC,
-                baseline::baseline_seal,
-                baseline::baseline_open,
-            ),
-            Self::Run(
-                Implementation::ScalarCRun,
-                baseline::baseline_seal_run,
-                baseline::baseline_open_run,
-            ),
-            Self::Reference(Start::New),
-        ]
-    }
-
-    /// The library does not seal under the old start.
-    fn all_old() -> Vec<Self> {
-        vec![
-            #[cfg(feature = "archive")]
-            Self::Foreign(
-                Implementation::Library,
-                baseline::baseline_seal_old,
-                calmbaize::ffi::calmbaize_open_old,
-            ),
-            Self::Foreign(
-                Implementation::ScalarC,
-                baseline::baseline_seal_old,
-                baseline::baseline_open_old,
-            ),
-            Self::Reference(Start::Old),
-        ]
-    }
-
-    /// What converts the parcels that `seal` makes.
-    fn all_converting(seal: Sealing) -> Vec<Self> {
-        vec![
-            #[cfg(feature = "archive")]
-            Self::Foreign(
-                Implementation::Library,
-                seal,
-                calmbaize::ffi::calmbaize_convert,
-            ),
-            Self::Foreign(Implementation::ScalarC, seal, baseline::baseline_convert),
-        ]
-    }
-
-    fn implementation(self) -> Implementation {
-        match self {
-            Self::Foreign(implementation, ..) | Self::Run(implementation, ..) => implementation,
-            Self::Reference(_) => Implementation::Reference,
-        }
-    }
-
-    /// The case of a setting, if it has that.
-    pub fn case(self, setting: Setting, operation: Operation, len: usize) -> Option<Case<Key>> {
-        let (mode, rounds) = setting?;
-        let implementation = self.implementation();
-        if !implementation.has(setting) {
-            return None;
-        }
-        let key = Key {
-            implementation,
-            setting,
-            operation,
-            len,
-        };
-        let mut words = Buffer::filled(0, reference::run_len(0, len));
-        Some(case(key, 32, move |seal, input, output| {
-            self.run((mode, rounds), seal, input, output, &mut words)
-        }))
-    }
-
-    fn run(
+impl How {
+    /// Makes the call, with an empty header.
+    pub fn make(
         self,
-        settings: (u32, u32),
-        seal: bool,
+        (mode, rounds): (u32, u32),
         input: &[u8],
         output: &mut [u8],
         words: &mut [u64],
     ) -> u64 {
         match self {
-            Self::Foreign(_, seal_fn, parcel_fn) => {
-                let call = if seal { seal_fn } else { parcel_fn };
-                foreign(call, settings, input, output)
+            Self::Step(call) => foreign(call, (mode, rounds), input, output),
+            Self::Run(call) => foreign_run(call, (mode, rounds), input, output, words),
+            Self::Second(call, start) => {
+                let inputs = [&KEY, &NONCE[..reference::NONCE_LEN], &[], input];
+                match call(start, mode, rounds, inputs, output) {
+                    Ok(written) => written as u64,
+                    Err((number, _)) => u64::from(number) << 32,
+                }
             }
-            Self::Run(_, seal_fn, parcel_fn) => {
-                let call = if seal { seal_fn } else { parcel_fn };
-                foreign_run(call, settings, input, output, words)
-            }
-            Self::Reference(start) => second(start, settings, seal, input, output),
         }
     }
+}
+
+/// Seals under a start, as the scalar C does, so that all open the same parcels.
+pub fn sealed(start: Start, settings: (u32, u32), message: &[u8], parcel: &mut [u8]) {
+    let seal = match start {
+        Start::New => baseline::baseline_seal,
+        Start::Old => baseline::baseline_seal_old,
+    };
+    let written = foreign(seal, settings, message, parcel);
+    assert_eq!(written, parcel.len() as u64, "a parcel to open");
 }
 
 fn foreign(call: Sealing, (mode, rounds): (u32, u32), input: &[u8], output: &mut [u8]) -> u64 {
@@ -214,29 +101,12 @@ fn foreign_run(
     }
 }
 
-/// The second implementation.
-fn second(
-    start: Start,
-    (mode, rounds): (u32, u32),
-    seal: bool,
-    input: &[u8],
-    output: &mut [u8],
-) -> u64 {
-    let call = if seal {
-        reference::seal_under
-    } else {
-        reference::open_under
-    };
-    let inputs = [&KEY, &NONCE[..reference::NONCE_LEN], &[], input];
-    match call(start, mode, rounds, inputs, output) {
-        Ok(written) => written as u64,
-        Err((number, _)) => u64::from(number) << 32,
-    }
-}
-
 #[cfg(all(test, target_arch = "x86_64"))]
 mod tests {
     use super::*;
+    use crate::calls;
+    use crate::cases::Implementation::{self, Avx2C, Avx2Clang};
+    use crate::wide;
     use baseline::{baseline_open_run, baseline_seal_run};
     use reference::{run_len, MRO, OPP, ROUNDS};
 
@@ -244,11 +114,11 @@ mod tests {
     /// no AVX2.
     fn by_avx2() -> Vec<(Implementation, RunSealing, RunSealing)> {
         let calls = |each| match each {
-            SealOpen::Run(Implementation::WideRun, ..) => None,
-            SealOpen::Run(by, seal, open) => Some((by, seal, open)),
+            (by @ (Avx2C | Avx2Clang), How::Run(seal), How::Run(open)) => Some((by, seal, open)),
             _ => None,
         };
-        SealOpen::all_wide().into_iter().filter_map(calls).collect()
+        let all = calls::seal_and_open().into_iter().filter(|_| wide::runs());
+        all.filter_map(calls).collect()
     }
 
     #[test]

@@ -1,11 +1,13 @@
 //! libsodium, loaded when the program runs, so that it builds without it.
 
-use crate::cases::{case, Implementation, Key, Operation, KEY, NONCE, TAG_DIFFERS};
+use crate::calls::{Call, DIFFERS, OPEN, OPEN_REFUSED, SEAL};
+use crate::cases::{Implementation, Key, Size, KEY, NONCE};
 use crate::measure::Case;
 use std::ffi::{c_char, c_int, c_uchar, c_ulonglong, c_void, CStr};
 use std::ptr::{null, null_mut};
 
 const NAMES: [&CStr; 3] = [c"libsodium.so", c"libsodium.so.26", c"libsodium.so.23"];
+const VERSION: &CStr = c"sodium_version_string";
 const RTLD_NOW: c_int = 2;
 const TAG_LEN: usize = 16;
 
@@ -49,6 +51,7 @@ struct Aead {
 /// The AEADs that the machine's libsodium has.
 pub struct Sodium {
     aeads: Vec<Aead>,
+    version: String,
 }
 
 impl Sodium {
@@ -81,12 +84,24 @@ impl Sodium {
                 c"crypto_aead_aes256gcm_decrypt",
             )?);
         }
-        Some(Self { aeads })
+        // SAFETY: the function takes nothing and returns a text that ends in a zero byte and stays.
+        let version = unsafe {
+            let version = symbol::<unsafe extern "C" fn() -> *const c_char>(library, VERSION)?;
+            CStr::from_ptr(version())
+        };
+        let version = version.to_string_lossy().into_owned();
+        Some(Self { aeads, version })
     }
 
-    /// The cases of libsodium's ciphers.
-    pub fn cases(&self, operation: Operation, len: usize) -> Vec<Case<Key>> {
-        let cases = self.aeads.iter().map(|aead| aead.case(operation, len));
+    /// libsodium's version.
+    pub fn version(&self) -> &str {
+        &self.version
+    }
+
+    /// The cases of libsodium's ciphers that are wanted, where they have such a call.
+    pub fn cases(&self, call: &Call, len: usize, wanted: &dyn Fn(Key) -> bool) -> Vec<Case> {
+        let aeads = self.aeads.iter();
+        let cases = aeads.filter_map(|aead| aead.case(call, len, wanted));
         cases.collect()
     }
 }
@@ -118,19 +133,20 @@ fn aead(
 }
 
 impl Aead {
-    fn case(self, operation: Operation, len: usize) -> Case<Key> {
-        let key = Key {
-            implementation: self.implementation,
-            setting: None,
-            operation,
-            len,
+    fn case(self, call: &Call, len: usize, wanted: &dyn Fn(Key) -> bool) -> Option<Case> {
+        let make = match call.name {
+            SEAL => Self::encrypt,
+            OPEN | OPEN_REFUSED => Self::decrypt,
+            _ => return None,
         };
-        case(key, TAG_LEN, move |seal, input, output| {
-            if seal {
-                self.encrypt(input, output)
-            } else {
-                self.decrypt(input, output)
-            }
+        let key = Key::new(self.implementation, None, call.name, Size::Bytes(len));
+        let seal = |_, message: &[u8], parcel: &mut [u8]| {
+            self.encrypt(message, parcel);
+        };
+        wanted(key).then(|| {
+            call.case(key, TAG_LEN, seal, move |input, output| {
+                make(&self, input, output)
+            })
         })
     }
 
@@ -170,6 +186,6 @@ impl Aead {
 fn answer(result: c_int, written: usize) -> u64 {
     match result {
         0 => written as u64,
-        _ => TAG_DIFFERS,
+        _ => DIFFERS << 32,
     }
 }

@@ -11,8 +11,8 @@ pub struct Table {
 
 impl Table {
     /// A table whose first `text` columns hold text.
-    pub fn new(text: usize, heading: &[&str]) -> Self {
-        let rows = vec![heading.iter().map(ToString::to_string).collect()];
+    pub fn new(text: usize, heading: Vec<String>) -> Self {
+        let rows = vec![heading];
         Self { rows, text }
     }
 
