@@ -7,7 +7,7 @@ use crate::setup::Setup;
 
 /// The columns. Those that a row has nothing for are empty; no name has a comma.
 const HEADING: &str =
-    "what,call,library,archive,engine,mode,rounds,bytes,cycles,cycles_per_byte,ns,by,ratio,bound,aim,seconds";
+    "what,call,library,archive,engine,mode,rounds,bytes,cycles,cycles_per_byte,ns,by,ratio,taken,bound,aim,seconds";
 
 /// The table, as text: the calls' times, the ratios that have a bound, and the gate's seconds.
 pub fn rows(setup: &Setup, samples: &Samples, ratios: &[Ratio]) -> String {
@@ -16,7 +16,7 @@ pub fn rows(setup: &Setup, samples: &Samples, ratios: &[Ratio]) -> String {
         .keys()
         .map(|key| time(key, cycles(key), setup.gigahertz));
     let gate = setup.gate.iter();
-    let gate = gate.map(|(name, seconds)| format!("gate,{name},,,,,,,,,,,,,,{seconds}\n"));
+    let gate = gate.map(|(name, seconds)| format!("gate,{name},,,,,,,,,,,,,,,{seconds}\n"));
     let rows = times.chain(ratios.iter().map(ratio)).chain(gate);
     format!("{HEADING}\n") + &rows.collect::<String>()
 }
@@ -28,7 +28,7 @@ fn time(key: Key, cycles: f64, gigahertz: f64) -> String {
         0 => String::new(),
         bytes => format!("{:.3}", cycles / bytes as f64),
     };
-    format!("time,{},{cycles:.0},{per_byte},{ns:.0},,,,,\n", names(key))
+    format!("time,{},{cycles:.0},{per_byte},{ns:.0},,,,,,\n", names(key))
 }
 
 /// The row of a ratio.
@@ -37,8 +37,8 @@ fn ratio(ratio: &Ratio) -> String {
         |figure: Option<f64>| figure.map_or(String::new(), |figure| format!("{figure:.3}"));
     let (measured, aim) = (figure(ratio.measured), figure(ratio.bound.aim));
     let (by, bound) = (ratio.by().replace(", ", " "), ratio.bound.most);
-    let names = names(ratio.key);
-    format!("ratio,{names},,,,{by},{measured},{bound:.3},{aim},\n")
+    let (names, taken) = (names(ratio.key), ratio.taken);
+    format!("ratio,{names},,,,{by},{measured},{taken},{bound:.3},{aim},\n")
 }
 
 /// Call, library, archive, engine, mode, rounds and bytes.

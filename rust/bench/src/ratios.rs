@@ -148,6 +148,7 @@ impl Bound {
                     ratios.push(Ratio {
                         key,
                         measured: samples.ratio(key, &self.by.keys(key)),
+                        taken: 1,
                         bound: self,
                     });
                 }
@@ -238,6 +239,8 @@ pub struct Ratio {
     pub key: Key,
     /// What it is, where all its cases were measured.
     pub measured: Option<f64>,
+    /// How often it was measured.
+    pub taken: u32,
     pub bound: &'static Bound,
 }
 
@@ -282,6 +285,7 @@ impl Ratio {
         let again = samples.ratio(self.key, &self.others());
         let both = self.measured.into_iter().chain(again);
         self.measured = both.min_by(f64::total_cmp);
+        self.taken += 1;
     }
 
     /// What got worse, if it did.
@@ -343,7 +347,7 @@ mod tests {
             let own = [(ratio.key, vec![second])];
             let samples = Samples::made_up(own.into_iter().chain(others).collect());
             ratio.again(&samples);
-            assert_eq!(ratio.measured, Some(least));
+            assert_eq!((ratio.measured, ratio.taken), (Some(least), 2));
         }
     }
 

@@ -24,12 +24,6 @@ pub fn table(ratios: &[Ratio]) -> Table {
         if held.is_empty() {
             continue;
         }
-        let above = held.iter().filter(|ratio| ratio.is_above()).count();
-        let kept = if above == 0 {
-            "yes".into()
-        } else {
-            format!("not by {above} of {}", held.len())
-        };
         let [of, by] = bound.sides();
         let aim = bound.aim.map_or(String::new(), |aim| format!("{aim:.2}"));
         table.row(vec![
@@ -38,13 +32,24 @@ pub fn table(ratios: &[Ratio]) -> Table {
             by,
             range(&held),
             format!("{:.2}", bound.most),
-            kept,
+            kept(&held),
             aim,
             reached(&held),
             bound.note.into(),
         ]);
     }
     table
+}
+
+/// Whether all are within the bound, and how many were measured again.
+fn kept(ratios: &[&Ratio]) -> String {
+    let above = ratios.iter().filter(|ratio| ratio.is_above()).count();
+    let again = ratios.iter().filter(|ratio| ratio.taken > 1).count();
+    match (above, again) {
+        (0, 0) => "yes".into(),
+        (0, again) => format!("yes, {again} measured again"),
+        (above, _) => format!("not by {above} of {}", ratios.len()),
+    }
 }
 
 /// The least and the most.
@@ -112,5 +117,15 @@ mod tests {
         let table = table(&Ratio::made_up(|_| Some(1.0))).to_string();
         let due = table.lines().filter(|row| row.contains("due with card 7"));
         assert_eq!(due.filter(|row| row.contains("store read")).count(), 2);
+    }
+    #[test]
+    fn what_was_measured_again_is_said() {
+        let mut ratios = Ratio::made_up(|_| Some(1.0));
+        ratios[0].taken = 2;
+        let table = table(&ratios).to_string();
+        let again = table
+            .lines()
+            .filter(|row| row.contains("yes, 1 measured again"));
+        assert_eq!(again.count(), 1);
     }
 }
