@@ -58,7 +58,7 @@ end_beside() {
     cat "$work/beside"
 }
 
-# The seconds of each crate's proofs and of its edits, for the page of benchmarks. Two run at a time.
+# The seconds by the clock of each crate's proofs and of its edits, for the page of benchmarks. Several share a core.
 write_times() {
     sed -nE 's/^rt: ([a-z_]+) proved \(([0-9]+) s\).*/\1 \2/p; s/^rt: must-fail ([a-z_]+)\/.*; ([0-9]+) s\)$/\1-edits \2/p' "$log" |
         awk '!($1 in s) { order[++n] = $1 } { s[$1] += $2 } END { for (i = 1; i <= n; i++) print order[i], s[order[i]] }' >target/gate.times

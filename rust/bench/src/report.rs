@@ -224,7 +224,7 @@ fn gate(page: &mut String, times: &[(String, u64)]) {
     write!(
         page,
         "## The gate's time\n\n\
-         Proofs: {} s, over {} crates. Must-fail edits: {} s, of {} crates. Two run at a time, and each counts by itself.\n",
+         Proofs: {} s, over {} crates. Must-fail edits: {} s, of {} crates. Several share a core and each counts by the clock, so that the sums are more than the cores take.\n",
         proofs.0, proofs.1, edits.0, edits.1,
     )
     .expect("a string takes all");
