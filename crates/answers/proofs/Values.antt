@@ -72,6 +72,13 @@ pub allowed : {A : Type 0} {c found : Check} (out : A) (r : Answer × A) → fou
 unfolding checked
 allowed out r e q = sym (ap (λ (x : Check). checked x out r) (sym e ∙ q))
 
+-- a refused call changes nothing, where the work behind its checks changes nothing when it refuses
+pub checked-unchanged : {A : Type 0} (c : Check) (before : A) (r : Answer × A) (g : Ground) (at : ℕ) → (r .0 ≡ Refused g at → r .1 ≡ before)
+    → checked c before r .0 ≡ Refused g at → checked c before r .1 ≡ before
+unfolding checked
+checked-unchanged Clear before r g at h e = h e
+checked-unchanged (Fails k p) before r g at h e = refl
+
 -- whether an answer is no refusal
 abbrev pub isDone : Answer → Bool
 isDone (Done value) = true
