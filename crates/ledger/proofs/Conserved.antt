@@ -1,5 +1,5 @@
 -- The conserved total, over whole histories of calls. Assumes nothing.
-use mathlib.Core.Bool.{true}
+use mathlib.Core.Bool.{true, true≢false}
 use mathlib.Core.List.{List, [], _∷_}
 use mathlib.Core.Path.{_≡_, refl, ap, _∙_}
 use Prim.Native.Nat.{ℕ, _+_, _-_, _≤_}
@@ -7,16 +7,20 @@ use native.Mathlib.Omega.{arith}
 use lib.ListN.{length}
 use Rattle.words.specs.Block.{Bytes}
 use Rattle.answers.specs.Answers.{line, lineAt, checked}
+use Rattle.answers.specs.declared.Ground.{Ground}
+use Rattle.answers.specs.declared.Check.{Check}
 use Rattle.answers.specs.declared.Answer.{Answer}
 use Rattle.answers.specs.declared.Answer.the-variants.{Done, Refused}
-use Rattle.cells.specs.Cells.{firstFree, lengthFits}
+use Rattle.answers.proofs.Values.{isDone, checked-unchanged}
+use Rattle.cells.specs.Cells.{firstFree, sales, lengthFits}
+use Rattle.cells.proofs.Form.{in-all}
 use Rattle.sales.specs.declared.Sale.{Sale}
-use Rattle.entries.specs.Entries.{salesIn}
-use Rattle.store.specs.Store.{formatChecks, formatCall, totalCall}
+use Rattle.entries.specs.Entries.{opensAt, salesIn}
+use Rattle.store.specs.Store.{formatChecks, takeChecks, cancelChecks, formatCall, takeCall, cancelCall, totalCall}
 use Rattle.ledger.specs.Book.{Call, Book, found, coins, newBook, bookTake, bookCancel, entered, amountBack, AllFit, NoFormat}
 use Rattle.ledger.specs.Book.Call.{format, take, cancel, total, read}
 use Rattle.ledger.specs.Conserved.{called, storeAfter, kept, Agrees, Conserved}
-use Rattle.ledger.proofs.Sound.{total-sound, total-accepts, take-answers, cancel-answers}
+use Rattle.ledger.proofs.Sound.{total-sound, total-accepts, cancel-answers, read-holds, take-answers}
 use Rattle.ledger.proofs.Kept.{Kept, kept-new, kept-format, kept-after}
 
 -- ---- store and ledger agree
@@ -24,16 +28,37 @@ use Rattle.ledger.proofs.Kept.{Kept, kept-new, kept-format, kept-after}
 agrees : (key s : List ℕ) (b : Book) → length key ≡ 32 → Kept key s b → Agrees key s b
 agrees key s b k i = record {
   recorded = i .stands;
+  all-open = in-all (opensAt key s) (sales s) (i .sound .all-open);
   figure = total-sound key s k (i .sound) ∙ ap Done (ap coins (i .stands) ∙ omega (arith, i .balanced));
   most = omega (arith, i .balanced);
+  standing-figure = total-sound key s k (i .sound) ∙ ap (λ (l : List Sale). Done (coins l)) (i .stands);
   gives-back = λ machine sale. cancel-answers key machine sale s (i .sound) k ∙ ap (λ (l : List Sale). amountBack (found machine sale l)) (i .stands);
-  takes = λ x e q. (firstFree s, take-answers key x s (i .sound) k (ap (found (x .machine) (x .sale)) (i .stands) ∙ e) (rw (i .stands) q));
+  takes = λ x. rw (← i .stands) (take-answers key x s (i .sound) k);
+  reads = λ machine sale. read-holds key machine sale s (i .sound) ∙ ap (found machine sale) (i .stands);
 }
 
 -- a store of a right length, formatted
 formatted : (key s : List ℕ) → lengthFits s ≡ true → Kept key (formatCall s .1) (newBook 0 [])
 unfolding formatCall formatChecks line lineAt checked
 formatted key s e = rw e (kept-format key s e)
+
+formats : (s : List ℕ) → lengthFits s ≡ true → formatCall s .0 ≡ Done 0
+unfolding formatCall formatChecks line lineAt checked
+formats s e = rw e
+
+-- ---- refused calls
+
+-- a call that is done where its checks are clear
+done-unchanged : (c : Check) (v : ℕ) (s t : List ℕ) (g : Ground) (at : ℕ) → checked c s (Done v, t) .0 ≡ Refused g at → checked c s (Done v, t) .1 ≡ s
+done-unchanged c v s t g at e = checked-unchanged c s (Done v, t) g at (λ q. absurd (true≢false (ap isDone q))) e
+
+unchanged : (key s : List ℕ) (call : Call) (g : Ground) (at : ℕ) → called key call s .0 ≡ Refused g at → called key call s .1 ≡ s
+unfolding called formatCall takeCall cancelCall
+unchanged key s format g at e = done-unchanged (formatChecks s) 0 s _ g at e
+unchanged key s (take x) g at e = done-unchanged (takeChecks key x s) (firstFree s) s _ g at e
+unchanged key s (cancel machine sale) g at e = done-unchanged (cancelChecks key machine sale s) _ s _ g at e
+unchanged key s total g at e = refl
+unchanged key s (read machine sale) g at e = refl
 
 -- ---- the first figure
 
@@ -92,10 +117,12 @@ figures key s b first e a = rw (← e) (a .figure, a .most)
 pub conserved : Conserved
 conserved = record {
   from-accepted = λ key s first calls k bytes w e. accepted key calls k bytes w s first e;
+  formats = formats;
   from-format = λ key s calls k bytes w e. after-format key calls k bytes w s e;
   since-format = λ key s calls k bytes w e.
       let h = figures key _ _ 0 (zero-kept key (formatCall s .1) (newBook 0 []) calls (unfold newBook in refl)) (after-format key calls k bytes w s e) in
       (h .0 ∙ ap Done (omega arith), omega (arith, h .1));
   until-format = λ key s first calls k bytes w n e.
       figures key _ _ first (until key s (newBook first (salesIn key s)) calls n ∙ (unfold newBook in refl)) (accepted key calls k bytes w s first e);
+  refused-unchanged = unchanged;
 }

@@ -1,13 +1,13 @@
--- Stores whose form is as said and whose sales all open: total accepts these, and format, take and cancel leave such. Assumes nothing.
+-- Stores whose form is as said and whose sales all open: total accepts these, format, take and cancel leave such, and so it is known what the calls answer. Assumes nothing.
 use mathlib.Core.Bool.{Bool, true, false, cond, not}
 use mathlib.Core.List.{List, [], _∷_, map}
 use mathlib.Core.Logic.{inl, inr}
 use mathlib.Core.Path.{_≡_, refl, sym, ap, ap₂, _∙_, subst}
-use Prim.Native.Nat.{ℕ, _+_, _<_}
+use Prim.Native.Nat.{ℕ, _+_}
 use native.Mathlib.Omega.{arith}
-use lib.Dec.{eqb}
+use lib.Dec.{eqb, ltb}
 use lib.ListN.{length, length-map}
-use borrow.Author.Tests.{eq-eqb, ne-eqb, eqb-false}
+use borrow.Author.Tests.{eq-eqb, ne-eqb, eqb-false, lt-ltb, le-ltb, not-false}
 use Rattle.words.specs.Block.{Bytes}
 use Rattle.answers.specs.Answers.{line, lineAt, checked, judged}
 use Rattle.answers.specs.declared.Ground.the-variants.{KeyLength, StoreForm, SaleNumbers, TagDiffers, StoreFull}
@@ -16,8 +16,9 @@ use Rattle.answers.specs.declared.Check.the-variants.{Clear}
 use Rattle.answers.specs.declared.Answer.the-variants.{Done}
 use Rattle.answers.proofs.Values.{line-clear, lineAt-clear, judged-done}
 use Rattle.cells.specs.Chains.{count, some, first}
-use Rattle.cells.specs.Cells.{cells, firstFree, sales, free, lengthFits, formed, named, present, cellNamed, cellBefore}
+use Rattle.cells.specs.Cells.{cells, firstFree, bodyOf, sales, free, lengthFits, formed, named, present, cellNamed, cellBefore}
 use Rattle.cells.specs.Changes.{fresh, filled, emptied}
+use Rattle.cells.proofs.Cells.{body-length}
 use Rattle.cells.proofs.Chains.{In, others, first-in, others-in}
 use Rattle.cells.proofs.Form.{Form, form-of, of-form, size-of, sales-are, long-of, in-cases, none-in, in-none}
 use Rattle.cells.proofs.Filled.{filled-form, filled-body, filled-others}
@@ -27,15 +28,12 @@ use Rattle.sales.specs.declared.Sale.{Sale}
 use Rattle.sales.specs.Sale.{Fits, bodyFor, opens, saleIn}
 use Rattle.sales.proofs.Bodies.{body-long, body-opens, body-sale}
 use Rattle.entries.specs.Entries.{opensAt, shutAt, saleAt, salesIn, cash}
-use Rattle.store.specs.Store.{formChecks, keyChecks, formatChecks, takeChecks, cancelChecks, totalChecks, takeCall, cancelCall, totalCall}
-use Rattle.ledger.specs.Book.{isNamed, found, without, coins, amountBack}
+use Rattle.store.specs.Store.{formChecks, keyChecks, formatChecks, takeChecks, cancelChecks, totalChecks, readChecks, takeCall, cancelCall, totalCall, partWhere, readPart}
+use Rattle.ledger.specs.Book.{isNamed, found, without, coins, amountBack, cellTaken}
+use Rattle.ledger.specs.Conserved.{heldIn}
 use Rattle.ledger.proofs.Sales.{map-ext, without-map, found-map, cash-coins}
 
 -- ---- checks
-
-not-false : (t : Bool) → not t ≡ false → t ≡ true
-not-false true e = refl
-not-false false e = sym e
 
 -- key and form are right: the next checks decide
 keys-next : (key s : List ℕ) (next : Check) → length key ≡ 32 → formed s ≡ true → keyChecks key s next ≡ next
@@ -153,7 +151,12 @@ module _ (key : List ℕ) where
             let f′ = filled-form (bodyFor key x) s (sales s) fs full g in
             (sound-of out (firstFree s ∷ sales s) fs f′ (opens-now fs g), sales-of out (firstFree s ∷ sales s) fs f′ ∙ sales-now fs g)
 
-  -- ---- cancel
+  -- ---- cancel and read
+
+  held-long : (body : List ℕ) → length body ≡ 61 → heldIn key body ≡ saleIn key body ∷ []
+  unfolding heldIn
+  held-long [] e = absurd (omega (arith, e))
+  held-long (x ∷ l) e = refl
 
   module _ (machine sale : ℕ) (s : List ℕ) (h : Sound key s) where
     same : (c : ℕ) → named machine sale s c ≡ isNamed machine sale (saleAt key s c)
@@ -201,26 +204,43 @@ module _ (key : List ℕ) where
         let next = line (not (present machine sale s)) SaleNumbers (lineAt (shutAt key s c) TagDiffers c Clear) in
         rw (keys-next key s next k (h .form), sale-found) (answers-by (present machine sale s) refl _)
 
-  -- ---- a take that is done
+    -- the part that read hands out once the form is right
+    part-holds : (t : Bool) → present machine sale s ≡ t
+        → heldIn key (partWhere (line (not t) SaleNumbers Clear) (bodyOf s (cellNamed machine sale s))) ≡ cond t (saleAt key s (cellNamed machine sale s) ∷ []) []
+    unfolding line lineAt partWhere heldIn saleAt
+    part-holds true e =
+        let c = cellNamed machine sale s in
+        held-long (bodyOf s c) (body-length s c (form-of s (h .form) .sold-here c (named-in e)))
+    part-holds false e = refl
 
-  none-found : (t : Bool) (y : Sale) → cond t (y ∷ []) [] ≡ [] → t ≡ false
-  none-found true y e = absurd (omega (arith, ap length e))
-  none-found false y e = refl
+    -- read hands out the sale that stands first under these numbers, or none
+    pub read-holds : heldIn key (readPart machine sale s) ≡ found machine sale (salesIn key s)
+    unfolding readPart readChecks formChecks line lineAt
+    read-holds = rw (h .form, sale-found) (part-holds (present machine sale s) refl)
 
-  -- some cell is free where the sales leave one
-  some-free : (s : List ℕ) → Sound key s → length (salesIn key s) + 1 < cells s → firstFree s ≡ 0 → ⊥
+  -- ---- what take answers
+
+  -- no cell is free exactly where the sales leave none
+  cells-left : (s : List ℕ) → Sound key s → eqb (firstFree s) 0 ≡ not (ltb (length (salesIn key s) + 1) (cells s))
   unfolding salesIn
-  some-free s h q z = go (free s) (form-of s (h .form))
+  cells-left s h = rw (length-map (sales s) (saleAt key s)) (go (free s) (form-of s (h .form)))
     where
-      go : (fs : List ℕ) → Form s (sales s) fs → ⊥
-      go [] f = absurd (omega (arith, size-of s (sales s) [] f, length-map (sales s) (saleAt key s)))
-      go (c ∷ fs) f = absurd (omega (arith, f .spare .0, f .spare .1))
+      go : (fs : List ℕ) → Form s (sales s) fs → eqb (firstFree s) 0 ≡ not (ltb (length (sales s) + 1) (cells s))
+      go [] f = rw (eq-eqb (firstFree s) 0 (f .spare), le-ltb (length (sales s) + 1) (cells s) (omega (arith, size-of s (sales s) [] f)))
+      go (c ∷ fs) f =
+          rw (ne-eqb (firstFree s) 0 (λ z. omega (arith, f .spare .0, f .spare .1)), lt-ltb (length (sales s) + 1) (cells s) (omega (arith, size-of s (sales s) (c ∷ fs) f)))
 
-  -- take of numbers under which no sale stands answers that cell
-  pub take-answers : (x : Sale) (s : List ℕ) → Sound key s → length key ≡ 32 → found (x .machine) (x .sale) (salesIn key s) ≡ []
-      → length (salesIn key s) + 1 < cells s → takeCall key x s .0 ≡ Done (firstFree s)
-  unfolding takeCall takeChecks line lineAt checked
-  take-answers x s h k e q =
-      let a = none-found (present (x .machine) (x .sale) s) _ (sym (sale-found (x .machine) (x .sale) s h) ∙ e) in
+  taken-by : (t left : Bool) (y : Sale) (c : ℕ) (s r : List ℕ)
+      → checked (line t SaleNumbers (line (not left) StoreFull Clear)) s (Done c, r) .0 ≡ cellTaken (cond t (y ∷ []) []) left c
+  unfolding line lineAt checked cellTaken
+  taken-by true left y c s r = refl
+  taken-by false true y c s r = refl
+  taken-by false false y c s r = refl
+
+  -- take answers the first free cell, or 16, or 15
+  pub take-answers : (x : Sale) (s : List ℕ) → Sound key s → length key ≡ 32
+      → takeCall key x s .0 ≡ cellTaken (found (x .machine) (x .sale) (salesIn key s)) (ltb (length (salesIn key s) + 1) (cells s)) (firstFree s)
+  unfolding takeCall takeChecks
+  take-answers x s h k =
       let next = line (present (x .machine) (x .sale) s) SaleNumbers (line (eqb (firstFree s) 0) StoreFull Clear) in
-      rw (keys-next key s next k (h .form), a, ne-eqb (firstFree s) 0 (some-free s h q))
+      rw (keys-next key s next k (h .form), sale-found (x .machine) (x .sale) s h, cells-left s h) (taken-by (present (x .machine) (x .sale) s) _ _ (firstFree s) s _)

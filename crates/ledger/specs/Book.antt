@@ -1,9 +1,9 @@
 -- The ledger of a store: what a history of calls says of it, by the calls' own arguments and by which were refused (document 02, card 1). Assumes nothing.
-use mathlib.Core.Bool.{Bool, cond, _&&_}
+use mathlib.Core.Bool.{Bool, true, false, cond, _&&_}
 use mathlib.Core.List.{List, [], _∷_, _++_}
 use Prim.Native.Nat.{ℕ, _+_}
 use lib.Dec.{eqb}
-use Rattle.answers.specs.declared.Ground.the-variants.{SaleNumbers}
+use Rattle.answers.specs.declared.Ground.the-variants.{StoreFull, SaleNumbers}
 use Rattle.answers.specs.declared.Answer.{Answer}
 use Rattle.answers.specs.declared.Answer.the-variants.{Done, Refused}
 use Rattle.sales.specs.declared.Sale.{Sale}
@@ -97,3 +97,9 @@ entered (read machine sale) (Done value) b = b
 unfoldable pub amountBack : List Sale → Answer
 amountBack [] = Refused SaleNumbers 0
 amountBack (x ∷ l) = Done (x .amount)
+
+-- what take has to answer: 16 where a sale stands under its numbers, then 15 where no cell is left, else the cell given
+unfoldable pub cellTaken : List Sale → Bool → ℕ → Answer
+cellTaken (x ∷ l) left cell = Refused SaleNumbers 0
+cellTaken [] false cell = Refused StoreFull 0
+cellTaken [] true cell = Done cell

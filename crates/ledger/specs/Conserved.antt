@@ -2,16 +2,20 @@
 use mathlib.Core.Bool.{true}
 use mathlib.Core.List.{List, [], _∷_}
 use mathlib.Core.Path.{_≡_}
-use Prim.Native.Nat.{ℕ, _+_, _-_, _≤_, _<_}
+use Prim.Native.Nat.{ℕ, _+_, _-_, _≤_}
+use lib.Dec.{ltb}
 use lib.ListN.{length}
 use Rattle.words.specs.Block.{Bytes}
+use Rattle.answers.specs.declared.Ground.{Ground}
 use Rattle.answers.specs.declared.Answer.{Answer}
-use Rattle.answers.specs.declared.Answer.the-variants.{Done}
-use Rattle.cells.specs.Cells.{cells, lengthFits}
+use Rattle.answers.specs.declared.Answer.the-variants.{Done, Refused}
+use Rattle.cells.specs.Chains.{all}
+use Rattle.cells.specs.Cells.{cells, firstFree, sales, lengthFits}
 use Rattle.sales.specs.declared.Sale.{Sale}
-use Rattle.entries.specs.Entries.{salesIn}
-use Rattle.store.specs.Store.{formatCall, takeCall, cancelCall, totalCall, readOffset}
-use Rattle.ledger.specs.Book.{Call, Book, found, coins, newBook, entered, amountBack, AllFit, NoFormat}
+use Rattle.sales.specs.Sale.{saleIn}
+use Rattle.entries.specs.Entries.{opensAt, salesIn}
+use Rattle.store.specs.Store.{formatCall, takeCall, cancelCall, totalCall, readPart, readOffset}
+use Rattle.ledger.specs.Book.{Call, Book, found, coins, newBook, entered, amountBack, cellTaken, AllFit, NoFormat}
 use Rattle.ledger.specs.Book.Call.{format, take, cancel, total, read}
 
 module _ (key : List ℕ) where
@@ -33,26 +37,38 @@ module _ (key : List ℕ) where
   kept [] s b = b
   kept (call ∷ calls) s b = kept calls (called call s .1) (entered call (called call s .0) b)
 
+  -- the sale that a part of the store holds, alone; none in an empty part
+  unfoldable pub heldIn : List ℕ → List Sale
+  heldIn [] = []
+  heldIn (x ∷ l) = saleIn key (x ∷ l) ∷ []
+
   -- store and ledger agree
   pub record Agrees (s : List ℕ) (b : Book) : Type 0 where
     -- the store holds the sales that stand in the ledger, with every field, and no others, in that order
     pub recorded : salesIn key s ≡ b .standing
+    -- and each opens
+    pub all-open : all (opensAt key s) (sales s) ≡ true
     -- total is not refused, and gives the first figure plus the coin amounts taken, less the coin amounts cancelled
     pub figure : totalCall key s ≡ Done ((b .first + coins (b .taken)) - coins (b .cancelled))
     -- of which there are no more
     pub most : coins (b .cancelled) ≤ b .first + coins (b .taken)
+    -- that is the coin amounts of the sales that stand: nothing else in the store counts
+    pub standing-figure : totalCall key s ≡ Done (coins (b .standing))
     -- cancel, of any numbers, answers the amount of the sale that it removes from the ledger
     pub gives-back : (machine sale : ℕ) → cancelCall key machine sale s .0 ≡ amountBack (found machine sale (b .standing))
-    -- and take is not refused where its numbers do not stand and fewer sales stand than the store has cells besides cell 0
-    pub takes : (x : Sale) → found (x .machine) (x .sale) (b .standing) ≡ [] → length (b .standing) + 1 < cells s
-        → (c : ℕ) × (takeCall key x s .0 ≡ Done c)
+    -- take answers the first free cell, and is refused only where its numbers stand or where sales fill all cells but cell 0
+    pub takes : (x : Sale) → takeCall key x s .0 ≡ cellTaken (found (x .machine) (x .sale) (b .standing)) (ltb (length (b .standing) + 1) (cells s)) (firstFree s)
+    -- read, of any numbers, hands out the sale that stands under them, with every field; an empty part where none does
+    pub reads : (machine sale : ℕ) → heldIn (readPart machine sale s) ≡ found machine sale (b .standing)
 
 -- the conserved total; proved as conserved in proofs/Conserved
 pub record Conserved : Type 0 where
   -- from any store that total accepts: the ledger begins with its figure and the sales that open there
   pub from-accepted : (key s : List ℕ) (first : ℕ) (calls : List Call) → length key ≡ 32 → Bytes key → AllFit calls
       → totalCall key s ≡ Done first → Agrees key (storeAfter key calls s) (kept key calls s (newBook first (salesIn key s)))
-  -- from a format on, of any store of a right length, whatever it held: the ledger begins at 0 with no sale
+  -- format is refused for no store of a right length, whatever it held, and answers 0
+  pub formats : (s : List ℕ) → lengthFits s ≡ true → formatCall s .0 ≡ Done 0
+  -- from such a format on: the ledger begins at 0 with no sale
   pub from-format : (key s : List ℕ) (calls : List Call) → length key ≡ 32 → Bytes key → AllFit calls → lengthFits s ≡ true
       → Agrees key (storeAfter key calls (formatCall s .1)) (kept key calls (formatCall s .1) (newBook 0 []))
   -- "From the last format on, [..] the cash total equals coin amounts taken less coin amounts cancelled", of which there are no more:
@@ -64,3 +80,5 @@ pub record Conserved : Type 0 where
   pub until-format : (key s : List ℕ) (first : ℕ) (calls : List Call) → length key ≡ 32 → Bytes key → AllFit calls → NoFormat calls
       → totalCall key s ≡ Done first → let b = kept key calls s (newBook first (salesIn key s)) in
       (totalCall key (storeAfter key calls s) ≡ Done ((first + coins (b .taken)) - coins (b .cancelled))) × (coins (b .cancelled) ≤ first + coins (b .taken))
+  -- a refused call "changes nothing": for every key and store and on every ground, no byte of the store
+  pub refused-unchanged : (key s : List ℕ) (call : Call) (ground : Ground) (place : ℕ) → called key call s .0 ≡ Refused ground place → called key call s .1 ≡ s
