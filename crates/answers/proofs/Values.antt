@@ -1,11 +1,10 @@
 -- Laws of checks, and a bound on what a call answers. Assumes nothing.
 use mathlib.Core.Path.{_≡_, refl, sym, ap, _∙_, subst}
 use mathlib.Core.Bool.{Bool, true, false, true≢false}
-use Prim.Native.Nat.{ℕ, _/_, _%_, _^_, _≤_, _<_}
-use lib.Arith.{digits-div, digits-mod}
+use Prim.Native.Nat.{ℕ, _≤_, _<_}
 use borrow.Author.Tests.{ltb-false}
 use lib.Dec.{ltb}
-use Rattle.answers.specs.Answers.{numberOf, valueOf, codeOf, lineAt, line, room, checked, judged}
+use Rattle.answers.specs.Answers.{valueOf, lineAt, line, room, checked, judged}
 use Rattle.answers.specs.declared.Ground.{Ground}
 use Rattle.answers.specs.declared.Ground.the-variants.{OutputLength}
 use Rattle.answers.specs.declared.Check.{Check}
@@ -121,11 +120,6 @@ pub judged-lt : (n : ℕ) (c : Check) (a : Answer) → placeOf c < n → (c ≡ 
 unfolding judged
 judged-lt n Clear a h k = k refl
 judged-lt n (Fails g at) a h k = h
-
--- an answer's number and value, taken apart again
-pub taken-apart : (a : Answer) → valueOf a < 2 ^ 32 → (codeOf a / 2 ^ 32 ≡ numberOf a) × (codeOf a % 2 ^ 32 ≡ valueOf a)
-unfolding codeOf
-taken-apart a h = (digits-div (numberOf a) h, digits-mod (numberOf a) h)
 
 -- what a call answered is as small as what it was to answer
 pub answered-lt : {A : Type 0} (n : ℕ) {a : Answer} {out : A} {r : Answer × A} → (a, out) ≡ r → valueOf (r .0) < n → valueOf a < n

@@ -49,6 +49,20 @@ codeOf a = numberOf a * 2 ^ 32 + valueOf a
 unfoldable pub coded : {A : Type 0} → Answer × A → ℕ × A
 coded r = (codeOf (r .0), r .1)
 
+-- total's answer for C: 0 on success, since the total itself may pass 2^32
+abbrev pub shown : Answer → Answer
+shown (Done total) = Done 0
+shown (Refused ground place) = Refused ground place
+
+-- what C's variable for the total holds afterwards: the total; where refused what it held before
+abbrev pub totalIn : Answer → ℕ → ℕ
+totalIn (Done total) before = total
+totalIn (Refused ground place) before = before
+
+-- total's one number, and its variable
+unfoldable pub totalled : Answer → ℕ → ℕ × ℕ
+totalled a before = (codeOf (shown a), totalIn a before)
+
 -- ---- checks
 
 -- a line of the table: where its ground holds, that is what the checks find, at that place; else the next line decides

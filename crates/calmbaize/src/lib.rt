@@ -3,13 +3,13 @@
 use answers::Answer;
 use sales::Sale;
 ghost use mathlib.Core.Path.{_≡_};
-ghost use Rattle.answers.specs.Answers.{codeOf, coded};
+ghost use Rattle.answers.specs.Answers.{codeOf, coded, totalled};
 ghost use Rattle.sealing.specs.Sealing.{sealCall, openCall, openOldCall};
 ghost use Rattle.run_sealing.specs.RunSealing.{sealRunCall, openRunCall};
 ghost use Rattle.converting.specs.Converting.{convertCall};
 ghost use Rattle.walking.specs.Walking.{walkCall, jumpCall};
 ghost use Rattle.store.specs.Store.{formatCall, takeCall, cancelCall, totalCall, readOffset};
-ghost use Rattle.calmbaize.specs.ForC.{saleOf, totalled};
+ghost use Rattle.calmbaize.specs.Arguments.{saleOf};
 
 // Seals a message: mode 1 is OPP, 2 is MRO; the output receives the ciphertext and then the tag.
 #[no_mangle]

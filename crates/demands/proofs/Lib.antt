@@ -4,3 +4,4 @@ pub mod Demand3
 pub mod Demand2
 pub mod Conversion
 pub mod Engines
+pub mod ForC

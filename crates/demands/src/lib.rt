@@ -1,1 +1,1 @@
-// Demands 2 and 3, about the calls' definitions: stated in specs/, proved in proofs/. No code.
+// Theorems about the calls' definitions, demands 2 and 3 among them: stated in specs/, proved in proofs/. No code.

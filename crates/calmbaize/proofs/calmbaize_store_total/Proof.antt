@@ -1,6 +1,15 @@
 -- The call's answer, put into one number, and the total, into its variable. Assumes nothing.
-use mathlib.Core.Path.{sym, _∙_}
-use Rattle.calmbaize.proofs.ForC.{total-done, total-refused, refused-small}
+use mathlib.Core.Path.{_≡_, sym, _∙_, subst}
+use mathlib.Core.List.{List}
+use Prim.Native.Nat.{ℕ, _^_, _<_}
+use Rattle.answers.specs.declared.Ground.{Ground}
+use Rattle.answers.specs.declared.Check.{Check}
+use Rattle.answers.specs.declared.Answer.{Answer}
+use Rattle.answers.specs.declared.Answer.the-variants.{Refused}
+use Rattle.answers.proofs.Values.{placeOf, judged-refused}
+use Rattle.answers.proofs.Numbers.{total-done, total-refused}
+use Rattle.store.specs.Store.{totalCall}
+use Rattle.store.proofs.Small.{total-place}
 use borrow.Author.Needs.{needs}
 use Rattle.calmbaize.proofs.calmbaize_store_total.Statement.{statement}
 use Rattle.calmbaize.proofs.calmbaize_store_total.Tie as tie
@@ -8,6 +17,11 @@ use Rattle.calmbaize.proofs.calmbaize_store_total.Reads as reads
 use Rattle.calmbaize.proofs.calmbaize_store_total.Lts as lts
 use Rattle.answers.proofs.code.Reads as code-reads
 use Rattle.store.proofs.total.Reads as total-reads
+
+-- a refusal's place fits into the one number
+refused-small : (key s : List ℕ) {a : Answer} {g : Ground} {at : ℕ} → a ≡ totalCall key s → a ≡ Refused g at → at < 2 ^ 32
+unfolding totalCall
+refused-small key s e q = subst (λ (c : Check). placeOf c < 2 ^ 32) (judged-refused _ _ _ _ (sym e ∙ q)) (total-place key s)
 
 total-requires : tie.Need-total-requires
 total-requires c κs = search needs
