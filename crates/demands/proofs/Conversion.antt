@@ -1,7 +1,8 @@
 -- Convert does what card 5 says, over the calls that seal and open. Assumes nothing.
 use mathlib.Core.Path.{_≡_, refl, sym, ap, _∙_, subst}
-use mathlib.Core.Bool.{Bool, true, false, true≢false}
-use mathlib.Core.List.{List, _++_}
+use mathlib.Core.Bool.{Bool, true, false, true≢false, false≢true}
+use mathlib.Core.Logic.{_⊎_, inl, inr, ⊎-elim, ⊎-map}
+use mathlib.Core.List.{List}
 use Prim.Native.Nat.{ℕ, _+_, _-_, _≤_}
 use native.Mathlib.Omega.{arith}
 use lib.ListN.{length, take, drop}
@@ -14,20 +15,19 @@ use Rattle.answers.specs.declared.Ground.the-variants.{TagDiffers, DoneAlready}
 use Rattle.answers.specs.declared.Check.{Check}
 use Rattle.answers.specs.declared.Check.the-variants.{Clear, Fails}
 use Rattle.answers.specs.declared.Answer.{Answer}
-use Rattle.answers.specs.declared.Answer.the-variants.{Done, Refused}
+use Rattle.answers.specs.declared.Answer.the-variants.{Refused}
 use Rattle.mem.specs.Mem.{startOf, oldStartOf}
 use Rattle.mem.proofs.Laws.{start-block, old-start-block}
 use Rattle.blockplan.specs.Parcel.{Mode, parcelOf, messageOf, genuine}
-use Rattle.blockplan.proofs.Parcels.{parcel-long, parcel-message, parcel-genuine}
+use Rattle.blockplan.proofs.Parcels.{parcel-long}
 use Rattle.checks.specs.Checks.{sealChecks, convertChecks}
 use Rattle.checks.proofs.Clears.{seal-after, open-after}
-use Rattle.modes.specs.Modes.{modeOf}
 use Rattle.sealing.specs.Sealing.{sealFrom, openFrom, sealCall, openCall, openOldCall}
 use Rattle.converting.specs.Converting.{converted, convertCall}
 use Rattle.converting.proofs.Answered.{converted-where, done-where, neither-where}
 use Rattle.demands.specs.Demand2.{Sealable, Openable, Seals, Opens}
-use Rattle.demands.specs.Conversion.{SealsAgain, OpensConverted, Unopened, RefusesUnchanged, Conversion}
-use Rattle.demands.proofs.Demand2.{length-zeros, roomy, Blocks, modeUnder, law, seals, inputs, long, opens, refuses, message-is, law-there, parcel-is, one-parcel, parcel-opens}
+use Rattle.demands.specs.Conversion.{SealsAgain, OpensConverted, Opened, Unopened, RefusesUnchanged, OneOfThree, Conversion}
+use Rattle.demands.proofs.Demand2.{length-zeros, roomy, Blocks, modeUnder, seals, inputs, long, opens, refuses, message-is, law-there, parcel-is, one-parcel, parcel-opens}
 
 -- ---- a parcel that opens is genuine, and holds that message
 
@@ -64,12 +64,20 @@ module _ (start : ℕ → List ℕ → List ℕ → List ℕ) (is-block : Blocks
   opened-is message o = by-tag message o _ refl
 
   -- and one of which no message comes is not genuine
-  unopened-is : ((message : List ℕ) → Opens (openFrom start) mode rounds key nonce header parcel message → ⊥) → genuine here header parcel ≡ false
+  unopened-is : Unopened mode rounds key nonce header (openFrom start) parcel → genuine here header parcel ≡ false
   unopened-is unopened = decided _ refl
     where
       decided : (t : Bool) → genuine here header parcel ≡ t → genuine here header parcel ≡ false
-      decided true e = absurd (unopened (messageOf here parcel) (opens start is-block mode rounds key nonce header parcel 𝓟 e))
+      decided true e = absurd (unopened (messageOf here parcel, opens start is-block mode rounds key nonce header parcel 𝓟 e))
       decided false e = e
+
+  -- one or the other, by the tag
+  opens-or-not : Opened mode rounds key nonce header (openFrom start) parcel ⊎ Unopened mode rounds key nonce header (openFrom start) parcel
+  opens-or-not = decided _ refl
+    where
+      decided : (t : Bool) → genuine here header parcel ≡ t → Opened mode rounds key nonce header (openFrom start) parcel ⊎ Unopened mode rounds key nonce header (openFrom start) parcel
+      decided true e = inl (messageOf here parcel, opens start is-block mode rounds key nonce header parcel 𝓟 e)
+      decided false e = inr (λ o. false≢true (sym e ∙ opened-is (o .0) (o .1) .0))
 
 -- ---- what convert answers
 
@@ -113,18 +121,29 @@ module _ (mode rounds : ℕ) (key nonce header : List ℕ) where
     unfolding openOldCall
     not-genuine-old unopened = unopened-is oldStartOf old-start-block mode rounds key nonce header parcel 𝓟 unopened
 
-    done-already : (message : List ℕ) → Unopened mode rounds key nonce header openOldCall parcel → Opens openCall mode rounds key nonce header parcel message
+    done-already : Unopened mode rounds key nonce header openOldCall parcel → Opened mode rounds key nonce header openCall parcel
         → RefusesUnchanged mode rounds key nonce header DoneAlready parcel
     unfolding openCall
-    done-already message unopened o out h =
+    done-already unopened o out h =
         convert-is out h
-        ∙ sym (done-where old new header parcel out (not-genuine-old unopened) (opened-is startOf start-block mode rounds key nonce header parcel 𝓟 message o .0))
+        ∙ sym (done-where old new header parcel out (not-genuine-old unopened) (opened-is startOf start-block mode rounds key nonce header parcel 𝓟 (o .0) (o .1) .0))
 
     neither : Unopened mode rounds key nonce header openOldCall parcel → Unopened mode rounds key nonce header openCall parcel → RefusesUnchanged mode rounds key nonce header TagDiffers parcel
     unfolding openCall
     neither unopened unopened-new out h =
         convert-is out h
         ∙ sym (neither-where old new header parcel out (not-genuine-old unopened) (unopened-is startOf start-block mode rounds key nonce header parcel 𝓟 unopened-new))
+
+    one-of-three : OneOfThree mode rounds key nonce header parcel
+    unfolding openCall openOldCall
+    one-of-three = record {
+      converts = converts;
+      done-already = done-already;
+      neither = neither;
+      cases = ⊎-elim inl
+          (λ unopened. inr (⊎-map (λ o. (unopened, o)) (λ u. (unopened, u)) (opens-or-not startOf start-block mode rounds key nonce header parcel 𝓟)))
+          (opens-or-not oldStartOf old-start-block mode rounds key nonce header parcel 𝓟);
+    }
 
   -- ---- what the old start's sealing made
 
@@ -175,8 +194,6 @@ unfolding convertCall
 conversion = record {
   converts-sealed = λ mode rounds key nonce header message parcel 𝓜 s.
       (seals-again mode rounds key nonce header message parcel 𝓜 s, opens-converted mode rounds key nonce header message parcel 𝓜 s);
-  converts = λ mode rounds key nonce header parcel message 𝓟 o. converts mode rounds key nonce header parcel 𝓟 message o;
-  done-already = λ mode rounds key nonce header parcel message 𝓟 unopened o. done-already mode rounds key nonce header parcel 𝓟 message unopened o;
-  neither = λ mode rounds key nonce header parcel 𝓟 unopened unopened-new. neither mode rounds key nonce header parcel 𝓟 unopened unopened-new;
+  one-of-three = λ mode rounds key nonce header parcel 𝓟. one-of-three mode rounds key nonce header parcel 𝓟;
   unchanged = λ mode rounds key nonce header parcel out g at e. checked-unchanged _ out _ g at (ways-unchanged _ _ header parcel out g at _ _ refl refl) e;
 }

@@ -44,7 +44,7 @@ module _ (start : ℕ → List ℕ → List ℕ → List ℕ) (is-block : Blocks
   modeUnder = modeOf mode rounds (start rounds key nonce)
 
   -- the mode is lawful for every round count: the allowed ones play no part
-  pub law : Bytes key → Bytes nonce → Lawful modeUnder
+  law : Bytes key → Bytes nonce → Lawful modeUnder
   unfolding modeUnder
   law hk hn = mode-lawful mode rounds (start rounds key nonce) (is-block rounds key nonce hk hn)
 

@@ -1,5 +1,6 @@
 -- What convert makes of parcels of the old start, and of every other (document 02, card 5). Assumes nothing.
 use mathlib.Core.Path.{_≡_}
+use mathlib.Core.Logic.{_⊎_}
 use mathlib.Core.List.{List, _++_}
 use Prim.Native.Nat.{ℕ, _≤_}
 use lib.ListN.{length, drop}
@@ -24,13 +25,28 @@ module _ (mode rounds : ℕ) (key nonce header : List ℕ) where
       × ((out : List ℕ) → length parcel ≤ length out → convertCall mode rounds key nonce header parcel out ≡ (Done (length parcel), new ++ drop (length parcel) out))
       × Opens openCall mode rounds key nonce header new message
 
-  -- no message comes out of that parcel by that call
+  -- some message comes out of that parcel by that call
+  abbrev pub Opened : Call → List ℕ → Type 0
+  Opened opening parcel = (message : List ℕ) × Opens opening mode rounds key nonce header parcel message
+
+  -- none does
   abbrev pub Unopened : Call → List ℕ → Type 0
-  Unopened opening parcel = (message : List ℕ) → Opens opening mode rounds key nonce header parcel message → ⊥
+  Unopened opening parcel = Opened opening parcel → ⊥
 
   -- convert refuses that parcel on that ground and changes no byte of an output that has room for a parcel
   abbrev pub RefusesUnchanged : Ground → List ℕ → Type 0
   RefusesUnchanged ground parcel = (out : List ℕ) → length parcel ≤ length out → convertCall mode rounds key nonce header parcel out ≡ (Refused ground 0, out)
+
+  -- what convert does with a parcel, by how it opens
+  pub record OneOfThree (parcel : List ℕ) : Type 0 where
+    -- one that opens under the old start is converted, whether it opens under the new one or not
+    pub converts : (message : List ℕ) → Opens openOldCall mode rounds key nonce header parcel message → SealsAgain parcel message
+    -- one that opens under the new start and not under the old is done already
+    pub done-already : Unopened openOldCall parcel → Opened openCall parcel → RefusesUnchanged DoneAlready parcel
+    -- every other gives 9
+    pub neither : Unopened openOldCall parcel → Unopened openCall parcel → RefusesUnchanged TagDiffers parcel
+    -- one of the three holds of every parcel, and no two of them: unopened is the contrary of opened
+    pub cases : Opened openOldCall parcel ⊎ (Unopened openOldCall parcel × Opened openCall parcel) ⊎ (Unopened openOldCall parcel × Unopened openCall parcel)
 
 -- message and length survive exactly; of every parcel that open refuses on no ground but 9, given room for it, it is said what convert does
 pub record Conversion : Type 0 where
@@ -38,17 +54,9 @@ pub record Conversion : Type 0 where
   pub converts-sealed : (mode rounds : ℕ) (key nonce header message parcel : List ℕ) → Sealable mode rounds key nonce header message
       → Seals (sealFrom oldStartOf) mode rounds key nonce header message parcel
       → SealsAgain mode rounds key nonce header parcel message × OpensConverted mode rounds key nonce header parcel message
-  -- a parcel that opens under the old start is converted, whether it opens under the new one or not
-  pub converts : (mode rounds : ℕ) (key nonce header parcel message : List ℕ) → Openable mode rounds key nonce header parcel
-      → Opens openOldCall mode rounds key nonce header parcel message → SealsAgain mode rounds key nonce header parcel message
-  -- one that opens under the new start and not under the old is done already
-  pub done-already : (mode rounds : ℕ) (key nonce header parcel message : List ℕ) → Openable mode rounds key nonce header parcel
-      → Unopened mode rounds key nonce header openOldCall parcel → Opens openCall mode rounds key nonce header parcel message
-      → RefusesUnchanged mode rounds key nonce header DoneAlready parcel
-  -- every other gives 9
-  pub neither : (mode rounds : ℕ) (key nonce header parcel : List ℕ) → Openable mode rounds key nonce header parcel
-      → Unopened mode rounds key nonce header openOldCall parcel → Unopened mode rounds key nonce header openCall parcel
-      → RefusesUnchanged mode rounds key nonce header TagDiffers parcel
+  -- every parcel that passes the checks before, whoever made it, is converted, done already, or gives 9
+  pub one-of-three : (mode rounds : ℕ) (key nonce header parcel : List ℕ) → Openable mode rounds key nonce header parcel
+      → OneOfThree mode rounds key nonce header parcel
   -- a refusal, on whichever ground and for whatever arguments, changes no output
   pub unchanged : (mode rounds : ℕ) (key nonce header parcel out : List ℕ) (ground : Ground) (place : ℕ)
       → convertCall mode rounds key nonce header parcel out .0 ≡ Refused ground place → convertCall mode rounds key nonce header parcel out .1 ≡ out
