@@ -1,14 +1,14 @@
 -- The run is that of the masks, and the engine that works from it is the stepping one. Assumes nothing.
 use mathlib.Core.Path.{_≡_, refl, sym, ap, ap₂, _∙_}
-use mathlib.Core.Bool.{Bool, true, false, cond, true≢false}
+use mathlib.Core.Bool.{Bool, true, false, true≢false}
 use mathlib.Core.List.{List, _++_}
-use Prim.Native.Nat.{ℕ, _+_, _-_, _≤_, _<_}
+use Prim.Native.Nat.{ℕ, _+_, _-_, _<_}
 use native.Mathlib.Omega.{arith}
-use lib.Dec.{eqb, ltb}
+use lib.Dec.{eqb}
 use lib.ListN.{length, drop}
 use borrow.Author.Tests.{lt-ltb}
 use Rattle.words.specs.Sequence.{tab}
-use Rattle.words.specs.Block.{Block, Bytes}
+use Rattle.words.specs.Block.{Block}
 use Rattle.answers.specs.Answers.{groundNumber, line, lineAt, room, checked}
 use Rattle.answers.specs.declared.Ground.{Ground}
 use Rattle.answers.specs.declared.Ground.the-variants.{OutputLength, TagDiffers}
@@ -20,28 +20,31 @@ use Rattle.answers.proofs.Values.{isDone, stopped, passed-on}
 use Rattle.masks.specs.Steps.{alphaW}
 use Rattle.masks.specs.Run.{run, grown}
 use Rattle.masks.proofs.Run.{run-at, run-new, grown-run, window, window-beta, window-gamma}
-use Rattle.mem.specs.Mem.{startOf}
 use Rattle.mem.proofs.Laws.{start-block}
 use Rattle.runs.proofs.Planned.{beta-on}
 use Rattle.checks.specs.Checks.{settings, openInputs, runLength, sealRunChecks, openRunChecks}
 use Rattle.checks.proofs.Runs.{run-long, seal-run-after, open-run-after, seal-run-same, open-run-same}
 use Rattle.sealing.specs.Sealing.{verdict, sealFrom, openFrom, sealCall, openCall}
 use Rattle.run_sealing.specs.RunSealing.{runIn, sealRunCall, openRunCall}
-use Rattle.demands.specs.Engines.{OneRun, without, wordsOf, HoldsRun, SameEngine}
+use Rattle.demands.specs.Engines.{OneRun, without, SameEngine}
 
 pub one-run : OneRun
 unfolding alphaW
-one-run = record {
-  first = λ s b. run-at s (b .long);
-  next = λ s b. run-new s (b .long);
-  so-far = λ s b. grown-run s (b .long);
-  alphas = window;
-  betas = window-beta;
-  gammas = window-gamma;
-  further = beta-on;
+one-run s b = record {
+  first = run-at s (b .long);
+  next = run-new s (b .long);
+  so-far = grown-run s (b .long);
+  alphas = window s b;
+  betas = window-beta s b;
+  gammas = window-gamma s b;
+  further = beta-on s b;
 }
 
 -- ---- a call that writes words too, after its checks
+
+-- the words that it leaves
+abbrev wordsOf : Answer × (List ℕ × List ℕ) → List ℕ
+wordsOf r = r .1 .1
 
 module _ (out words : List ℕ) (r : Answer × (List ℕ × List ℕ)) where
   without-checked : (c : Check) → without (checked c (out, words) r) ≡ checked c out (without r)
@@ -128,33 +131,24 @@ verdict-ground n false out g at never e = never (sym (ap groundIn e))
 
 pub same-engine : SameEngine
 unfolding sealRunCall openRunCall sealCall openCall sealFrom openFrom
-same-engine = record {
-  seals = λ mode rounds key nonce header message out words h.
-      same-checked out words _ _ _ (seal-run-same mode rounds (length key) (length nonce) (length header) (length message) (length out) (length words) h);
-  opens = λ mode rounds key nonce header parcel out words h.
-      same-checked out words _ _ _ (open-run-same mode rounds (length key) (length nonce) (length header) (length parcel) (length out) (length words) h);
-  seals-refused = λ mode rounds key nonce header message out words g at e.
-      refused-as (out, words) _ _ g at (stopped _ _ (seal-run-after mode rounds (length key) (length nonce) (length header) (length message) (length out) (length words)) e);
-  opens-refused = λ mode rounds key nonce header parcel out words g at e.
-      refused-as (out, words) _ _ g at (stopped _ _ (open-run-after mode rounds (length key) (length nonce) (length header) (length parcel) (length out) (length words)) e);
-  seals-short = λ mode rounds key nonce header message out words clear h.
-      refused-as (out, words) _ _ OutputLength 0
-      (passed-on _ _ (seal-run-after mode rounds (length key) (length nonce) (length header) (length message) (length out) (length words)) clear ∙ short _ _ h);
-  opens-short = λ mode rounds key nonce header parcel out words clear h.
-      refused-as (out, words) _ _ OutputLength 0
-      (passed-on _ _ (open-run-after mode rounds (length key) (length nonce) (length header) (length parcel) (length out) (length words)) clear ∙ short _ _ h);
-  seals-whatever = λ mode rounds key nonce header message out words other e.
-      whatever out words other _ _ _ _ refl (ap (sealRunChecks mode rounds (length key) (length nonce) (length header) (length message) (length out)) e);
-  opens-whatever = λ mode rounds key nonce header parcel out words other e.
-      whatever out words other _ _ _ _ refl (ap (openRunChecks mode rounds (length key) (length nonce) (length header) (length parcel) (length out)) e);
-  seals-words = λ mode rounds key nonce header message out words bk bn n e.
-      ap wordsOf (clear-done out words _ _ n e) ∙ holds (startOf rounds key nonce) words (length header) (length message) (start-block rounds key nonce bk bn);
-  opens-words = λ mode rounds key nonce header parcel out words bk bn n e.
-      ap wordsOf (clear-done out words _ _ n e) ∙ holds (startOf rounds key nonce) words (length header) (length parcel - 32) (start-block rounds key nonce bk bn);
-  nine-words = λ mode rounds key nonce header parcel out words bk bn at e.
-      ap wordsOf
-      (nine-clear out words _ _ at (open-not-nine mode rounds (length key) (length nonce) (length header) (length parcel) (length out) (length words)) e)
-      ∙ holds (startOf rounds key nonce) words (length header) (length parcel - 32) (start-block rounds key nonce bk bn);
-  seals-unchanged = λ mode rounds key nonce header message out words g at e. found-first out words _ _ g at (λ q. true≢false (ap isDone q)) e;
-  opens-unchanged = λ mode rounds key nonce header parcel out words g at never e. found-first out words _ _ g at (verdict-ground _ _ _ g at never) e;
-}
+same-engine mode rounds key nonce header input out words =
+    let of-seal = seal-run-after mode rounds (length key) (length nonce) (length header) (length input) (length out) (length words) in
+    let of-open = open-run-after mode rounds (length key) (length nonce) (length header) (length input) (length out) (length words) in
+    let not-nine = open-not-nine mode rounds (length key) (length nonce) (length header) (length input) (length out) (length words) in
+    record {
+      seals = λ h. same-checked out words _ _ _ (seal-run-same mode rounds (length key) (length nonce) (length header) (length input) (length out) (length words) h);
+      opens = λ h. same-checked out words _ _ _ (open-run-same mode rounds (length key) (length nonce) (length header) (length input) (length out) (length words) h);
+      seals-refused = λ g at e. refused-as (out, words) _ _ g at (stopped _ _ of-seal e);
+      opens-refused = λ g at e. refused-as (out, words) _ _ g at (stopped _ _ of-open e);
+      seals-short = λ clear h. refused-as (out, words) _ _ OutputLength 0 (passed-on _ _ of-seal clear ∙ short _ _ h);
+      opens-short = λ clear h. refused-as (out, words) _ _ OutputLength 0 (passed-on _ _ of-open clear ∙ short _ _ h);
+      seals-whatever = λ other e.
+          whatever out words other _ _ _ _ refl (ap (sealRunChecks mode rounds (length key) (length nonce) (length header) (length input) (length out)) e);
+      opens-whatever = λ other e.
+          whatever out words other _ _ _ _ refl (ap (openRunChecks mode rounds (length key) (length nonce) (length header) (length input) (length out)) e);
+      seals-words = λ bk bn n e. ap wordsOf (clear-done out words _ _ n e) ∙ holds _ words (length header) (length input) (start-block rounds key nonce bk bn);
+      opens-words = λ bk bn n e. ap wordsOf (clear-done out words _ _ n e) ∙ holds _ words (length header) (length input - 32) (start-block rounds key nonce bk bn);
+      nine-words = λ bk bn at e. ap wordsOf (nine-clear out words _ _ at not-nine e) ∙ holds _ words (length header) (length input - 32) (start-block rounds key nonce bk bn);
+      seals-unchanged = λ g at e. found-first out words _ _ g at (λ q. true≢false (ap isDone q)) e;
+      opens-unchanged = λ g at never e. found-first out words _ _ g at (verdict-ground _ _ _ g at never) e;
+    }
