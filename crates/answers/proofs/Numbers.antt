@@ -1,11 +1,11 @@
 -- The one number for C tells answers apart, and what total lays beside it. Assumes nothing.
 use mathlib.Core.Path.{_≡_, refl, sym, ap, ap₂, _∙_}
+use mathlib.Core.Bool.{cond}
 use mathlib.Core.List.{List, [], _∷_}
 use Prim.Native.Nat.{ℕ, zero, suc, _/_, _%_, _^_, _<_}
 use lib.Arith.{digits-div, digits-mod}
-use lib.Dec.{lit<}
-use lib.ListN.{getD}
-use Rattle.answers.specs.Answers.{numberOf, valueOf, codeOf, judged, shown, totalled}
+use lib.Dec.{eqb, lit<}
+use Rattle.answers.specs.Answers.{groundNumber, numberOf, valueOf, codeOf, judged, shown, totalled}
 use Rattle.answers.specs.declared.Ground.{Ground}
 use Rattle.answers.specs.declared.Ground.the-variants.{ModeNumber, Rounds, KeyLength, NonceLength, HeaderLength, InputLength, OutputLength, TagMissing, TagDiffers, StartLength, NetCount, StepByte, ListLength, StoreForm, StoreFull, SaleNumbers, DoneAlready}
 use Rattle.answers.specs.declared.Check.{Check}
@@ -21,15 +21,20 @@ taken-apart a h = (digits-div (numberOf a) h, digits-mod (numberOf a) h)
 
 -- ---- back from the number
 
--- the grounds in the order of their numbers, from 1
+-- all grounds
 abbrev grounds : List Ground
 grounds =
     ModeNumber ∷ Rounds ∷ KeyLength ∷ NonceLength ∷ HeaderLength ∷ InputLength ∷ OutputLength ∷ TagMissing ∷ TagDiffers ∷ StartLength ∷ NetCount ∷ StepByte ∷ ListLength ∷ StoreForm ∷ StoreFull ∷ SaleNumbers ∷ DoneAlready ∷ []
 
+-- the first of them with that number
+abbrev groundOf : List Ground → ℕ → Ground
+groundOf [] n = ModeNumber
+groundOf (ground ∷ others) n = cond (eqb (groundNumber ground) n) ground (groundOf others n)
+
 -- the answer with that number, and that value or place
 abbrev answerOf : ℕ → ℕ → Answer
 answerOf zero value = Done value
-answerOf (suc n) place = Refused (getD grounds n ModeNumber) place
+answerOf (suc n) place = Refused (groundOf grounds (suc n)) place
 
 answer-back : (a : Answer) → answerOf (numberOf a) (valueOf a) ≡ a
 answer-back (Done value) = refl
