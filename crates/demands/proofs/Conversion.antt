@@ -9,11 +9,10 @@ use lib.ListN.{length, take, drop}
 use lib.Seq.{take-at}
 use Rattle.words.specs.Sequence.{zeros}
 use Rattle.answers.specs.Answers.{valueOf, room, checked}
-use Rattle.answers.proofs.Values.{isDone, passed-on}
+use Rattle.answers.proofs.Values.{isDone, passed-on, checked-unchanged}
 use Rattle.answers.specs.declared.Ground.{Ground}
 use Rattle.answers.specs.declared.Ground.the-variants.{TagDiffers, DoneAlready}
-use Rattle.answers.specs.declared.Check.{Check}
-use Rattle.answers.specs.declared.Check.the-variants.{Clear, Fails}
+use Rattle.answers.specs.declared.Check.the-variants.{Clear}
 use Rattle.answers.specs.declared.Answer.{Answer}
 use Rattle.answers.specs.declared.Answer.the-variants.{Refused}
 use Rattle.mem.specs.Mem.{startOf, oldStartOf}
@@ -182,12 +181,6 @@ ways-unchanged old new header parcel out g at true t e q r =
     absurd (true≢false (ap isDone (ap (λ (x : Answer × List ℕ). x .0) (converted-where old new header parcel out _ e refl) ∙ r)))
 ways-unchanged old new header parcel out g at false true e q r = sym (ap (λ (x : Answer × List ℕ). x .1) (done-where old new header parcel out e q))
 ways-unchanged old new header parcel out g at false false e q r = sym (ap (λ (x : Answer × List ℕ). x .1) (neither-where old new header parcel out e q))
-
-checked-unchanged : (c : Check) (out : List ℕ) (r : Answer × List ℕ) (g : Ground) (at : ℕ) → (r .0 ≡ Refused g at → r .1 ≡ out)
-    → checked c out r .0 ≡ Refused g at → checked c out r .1 ≡ out
-unfolding checked
-checked-unchanged Clear out r g at h e = h e
-checked-unchanged (Fails k p) out r g at h e = refl
 
 pub conversion : Conversion
 unfolding convertCall
