@@ -1,11 +1,11 @@
--- The bench sheet's cases that are proved, P1 to P11 and the limits of the checks, and rows of the cards, as rows of one table (document 01, "Bench sheet"; document 02, cards 1, 2, 4 and 5). Assumes nothing.
+-- The bench sheet's cases that are proved, P1 to P11 and the limits of the checks, and rows of the cards, as rows of one table (document 01, "Bench sheet"; document 02, cards 1, 2, 4, 5 and 6). Assumes nothing.
 use mathlib.Core.Path.{_≡_}
 use mathlib.Core.List.{List, [], _∷_, _++_}
-use Prim.Native.Nat.{ℕ, suc, _+_, _<_}
+use Prim.Native.Nat.{ℕ, suc, _+_, _-_, _<_}
 use lib.IntN.{pos, negsuc}
 use lib.ListN.{length, getD, set, drop}
 use lib.Bits.{bitXor}
-use Rattle.words.specs.Sequence.{tab, zeros}
+use Rattle.words.specs.Sequence.{tab, times, zeros}
 use Rattle.words.specs.Block.{lowBytes, bytesOf, zeroBlock}
 use Rattle.permutation.specs.Permutation.{gOf, round, perm}
 use Rattle.masks.specs.Run.{grown}
@@ -22,7 +22,7 @@ use Rattle.answers.specs.declared.Answer.{Answer}
 use Rattle.checks.specs.Checks.{sealChecks, openChecks, convertChecks, runLength, sealRunChecks, openRunChecks}
 use Rattle.sealing.specs.Sealing.{sealCall, openCall, openOldCall}
 use Rattle.converting.specs.Converting.{convertCall}
-use Rattle.run_sealing.specs.RunSealing.{sealRunCall}
+use Rattle.run_sealing.specs.RunSealing.{sealRunCall, openRunCall}
 use Rattle.walking.specs.Walking.{walkChecks, jumpChecks}
 use Rattle.cells.specs.Cells.{free}
 use Rattle.cells.specs.Changes.{fresh, filled, emptied}
@@ -71,7 +71,14 @@ sampleKey = tab (λ i. 16 + i) 32
 unfoldable pub sampleNonce : List ℕ
 sampleNonce = tab (λ i. i) 16
 
--- their sixteen words before P, with these two in words 10 and 11
+-- a header and a message of unlike bytes, of up to 256
+unfoldable pub sampleHeader : ℕ → List ℕ
+sampleHeader n = tab (λ i. 255 - i) n
+
+unfoldable pub sampleMessage : ℕ → List ℕ
+sampleMessage n = tab (λ i. i) n
+
+-- the sixteen words of that key and nonce before P, with these two in words 10 and 11
 unfoldable pub sampleWords : ℕ → ℕ → List ℕ
 sampleWords w10 w11 =
     0x0706050403020100 ∷ 0x0f0e0d0c0b0a0908 ∷ 0 ∷ 0 ∷ 0 ∷ 0 ∷ 0 ∷ 0 ∷ 0 ∷ 0 ∷ w10 ∷ w11
@@ -92,6 +99,24 @@ oldMro = tag 0x06e87aeac9a18b13 0x8300ddbf924add88 0x5d333aa04a2b9dfb 0x0d2d029c
 unfoldable pub newMro : List ℕ
 newMro = tag 0x1802b346e068fc82 0x82aad085481337eb 0xf36f7b664cdc81b1 0x7bc30c42aabf07b6
 
+-- parcels of that header of 5 bytes and that message of 3, with sampleKey, sampleNonce and four rounds from card 4's start, OPP and MRO; no passage of documents 01 and 02
+unfoldable pub newOppParcel : List ℕ
+newOppParcel = 0x7f ∷ 0xb4 ∷ 0x60 ∷ tag 0xc5c6ef4f7c2fed32 0x6548ebf02f29cf36 0xa68345fbad1bc615 0x19502cbcb9ed0642
+
+unfoldable pub newMroParcel : List ℕ
+newMroParcel = 0x88 ∷ 0xad ∷ 0x78 ∷ tag 0x3297f71cfe06b4fd 0x3be5246774cbf91f 0x27619c44ab603f1c 0x30217af8aefcb91b
+
+-- what seal writes for a header and a message of these lengths, with the same key, nonce and rounds
+unfoldable pub sampleParcel : ℕ → ℕ → ℕ → List ℕ
+sampleParcel mode header message =
+    sealCall mode 4 sampleKey sampleNonce (sampleHeader header) (sampleMessage message) (zeros (message + 32)) .1
+
+-- what opening such a parcel from a run answers, and what it leaves in an output of four bytes
+unfoldable pub openedFromRun : ℕ → List ℕ → List ℕ
+openedFromRun mode parcel =
+    let r = openRunCall mode 4 sampleKey sampleNonce (sampleHeader 5) parcel (9 ∷ 9 ∷ 9 ∷ 9 ∷ []) (zeros 21) in
+    numberOf (r .0) ∷ valueOf (r .0) ∷ r .1 .0
+
 -- the parcel of a message with zero key and nonce and an empty header, over the section 4 start
 unfoldable pub sealedOld : ℕ → ℕ → List ℕ → List ℕ
 sealedOld mode rounds message = parcelOf (modeOf mode rounds (oldStartOf rounds (zeros 32) (zeros 16))) [] message
@@ -110,13 +135,14 @@ unfoldable pub paid : ℕ → Sale
 paid means = record { machine = 7; sale = 1; tail = zeros 8; amount = 150; column = 4; means = means; clock = zeros 6 }
 
 -- 61 bytes that begin with a machine and a sale number
-unfoldable pub taken : ℕ → ℕ → List ℕ
-taken machine sale = lowBytes 4 machine ++ (lowBytes 4 sale ++ zeros 53)
+unfoldable pub bodyNamed : ℕ → ℕ → List ℕ
+bodyNamed machine sale = lowBytes 4 machine ++ (lowBytes 4 sale ++ zeros 53)
 
--- the lines P1 to P11, of which P10 and P11 over the section 4 start; card 4's start before P, for each allowed count, and what is sealed from it; card 5's converter; card 6's run;
--- maskwalk's example with "g", P with twelve rounds, and the limits that the checks keep, those of card 2 too; then rows of the sale store (document 02, card 1)
+-- the bench sheet in its order, P10 and P11 over the section 4 start; then the table's other grounds, and rows of the cards, card by card. Sealed bytes that no document has
+-- are as two implementations outside the proofs, in C and in Rust, compute them
 unfoldable pub table : List Row
 table =
+    -- ---- P1 to P11
     record { got = g 1 0 0 0; want = 0x101 ∷ 0x0202000200020200 ∷ 0x0101000100010000 ∷ 0x0101000000010000 ∷ [] }  -- P1
     ∷ record { got = round zeroBlock; want = zeroBlock }  -- P2
     ∷ record { got = alpha (word 0 1); want = word 15 0x0020000000000000 }  -- P3
@@ -129,57 +155,25 @@ table =
     ∷ record { got = sealedOld 1 4 []; want = zeros 32 }  -- P10, OPP and MRO, over the section 4 start; with every round count in `zero-tags` below
     ∷ record { got = sealedOld 2 4 []; want = zeros 32 }
     ∷ record { got = sealedOld 1 4 (zeros 128); want = zeros 160 }  -- P11, over the section 4 start; with every round count in `zero-parcel` below
-    ∷ record { got = answered (openOldCall 1 4 (zeros 32) (zeros 16) [] (zeros 160) (zeros 128)); want = 0 ∷ 128 ∷ [] }  -- that parcel opens under the section 4 start
-    ∷ record { got = answered (openCall 1 4 (zeros 32) (zeros 16) [] (zeros 160) (zeros 128)); want = 9 ∷ 0 ∷ [] }  -- and not under card 4's
-    ∷ record { got = answered (openOldCall 1 4 (zeros 32) (zeros 16) [] (zeros 32) []); want = 0 ∷ 0 ∷ [] }  -- likewise P10's, OPP and MRO
-    ∷ record { got = answered (openCall 1 4 (zeros 32) (zeros 16) [] (zeros 32) []); want = 9 ∷ 0 ∷ [] }
-    ∷ record { got = answered (openOldCall 2 4 (zeros 32) (zeros 16) [] (zeros 32) []); want = 0 ∷ 0 ∷ [] }
-    ∷ record { got = answered (openCall 2 4 (zeros 32) (zeros 16) [] (zeros 32) []); want = 9 ∷ 0 ∷ [] }
-    ∷ record { got = startBlock 4 sampleKey sampleNonce; want = sampleWords 4 256 }  -- card 4's start before P, with each allowed count
-    ∷ record { got = startBlock 6 sampleKey sampleNonce; want = sampleWords 6 256 }
-    ∷ record { got = startBlock 8 sampleKey sampleNonce; want = sampleWords 8 256 }
-    ∷ record { got = startBlock 12 sampleKey sampleNonce; want = sampleWords 12 256 }
-    ∷ record { got = oldStartBlock sampleKey sampleNonce; want = sampleWords 0 0 }  -- section 4's
-    ∷ record { got = convertCall 2 4 (zeros 32) (zeros 16) [] (zeros 32) (zeros 33) .1; want = newMro ++ (0 ∷ []) }  -- P10's MRO parcel converted (document 02, card 5)
-    ∷ record { got = answered (convertCall 1 4 (zeros 32) (zeros 16) [] (zeros 32) (zeros 32)); want = 0 ∷ 32 ∷ [] }  -- what is answered for OPP's
-    ∷ record { got = answered (convertCall 2 4 (zeros 32) (zeros 16) [] newMro (zeros 32)); want = 17 ∷ 0 ∷ [] }  -- the new parcel is done already
-    ∷ record { got = convertCall 2 4 (zeros 32) (zeros 16) [] (1 ∷ zeros 31) (zeros 31 ++ (5 ∷ [])) .1; want = zeros 31 ++ (5 ∷ []) }  -- one of neither start, which changes no byte
-    ∷ record { got = answered (convertCall 2 4 (zeros 32) (zeros 16) [] (1 ∷ zeros 31) (zeros 32)); want = 9 ∷ 0 ∷ [] }
-    ∷ record { got = drop 16 (grown (word 0 1) 17); want = 0x0020000000000000 ∷ (zeros 15 ++ (0x0000040000000000 ∷ [])) }  -- words 16 to 32 of two runs (document 02, card 6): rotated, and
-    ∷ record { got = drop 16 (grown (word 5 1) 6); want = 0x2000 ∷ 0 ∷ 0 ∷ 0 ∷ 0 ∷ 0x0020000000000000 ∷ [] }  -- shifted
-    ∷ record { got = sealRunCall 2 4 (zeros 32) (zeros 16) [] [] (zeros 33) (zeros 21) .1 .0; want = newMro ++ (0 ∷ []) }  -- the empty message sealed from a run, MRO with four rounds
-    ∷ record { got = drop 21 (sealRunCall 1 4 (zeros 32) (zeros 16) [] [] (zeros 32) (zeros 21 ++ (5 ∷ 6 ∷ [])) .1 .1); want = 5 ∷ 6 ∷ [] }  -- what lies behind the run
-    ∷ record {
-      got = sealCall 1 12 sampleKey sampleNonce [] [] (zeros 32) .1;
-      want = tag 0xcb215bd593499c3f 0xb73a4e61a980aa54 0xeb5ddc07390000b6 0x91a1a84f27e1fd0b;
-    }  -- the empty message sealed from card 4's start, OPP with twelve rounds; no passage of documents 01 and 02
-    ∷ record { got = answered (openOldCall 1 6 sampleKey sampleNonce [] oldOpp []); want = 0 ∷ 0 ∷ [] }  -- and from section 4's, opened
-    ∷ record { got = answered (openOldCall 2 4 sampleKey sampleNonce [] oldMro []); want = 0 ∷ 0 ∷ [] }
-    ∷ record { got = gamma (word 0 1); want = set (set (word 0 1) 14 0x0020000000000000) 15 0x0020000000000000 }  -- maskwalk's example
-    ∷ record {
-      got = emptyDigest;
-      want = 0x03590142f7026a78 ∷ 0x72d2522585fdc6c6 ∷ 0x614758e140472f91 ∷ 0x19541ff717e2868a
-          ∷ 0x5358eeaf31105ed2 ∷ 0x4bb04e9344648913 ∷ 0x55b748145b683a90 ∷ 0xcee29bfe1a706fd5 ∷ [];
-    }  -- twelve rounds: BLAKE2b's digest of the empty message
+    -- ---- the sheet's refusals and limits
     ∷ record { got = found (sealChecks 1 5 31 16 0 0 32); want = 2 ∷ 0 ∷ [] }  -- rounds 5 and key 31 bytes
-    ∷ record { got = found (sealChecks 1 8 32 16 0 0 32); want = 0 ∷ 0 ∷ [] }  -- rounds 8 and 12 pass, 10 does not (document 02, card 2)
-    ∷ record { got = found (openChecks 2 12 32 16 0 32 0); want = 0 ∷ 0 ∷ [] }
-    ∷ record { got = found (openChecks 1 10 32 16 0 32 0); want = 2 ∷ 0 ∷ [] }
-    ∷ record { got = found (sealChecks 1 4 32 16 4096 65536 65568); want = 0 ∷ 0 ∷ [] }  -- header 4,096, message 65,536
-    ∷ record { got = found (sealChecks 2 6 32 16 4097 65536 65568); want = 5 ∷ 0 ∷ [] }
-    ∷ record { got = found (sealChecks 2 6 32 16 4096 65537 65569); want = 6 ∷ 0 ∷ [] }
-    ∷ record { got = found (sealChecks 1 4 32 16 0 128 159); want = 7 ∷ 0 ∷ [] }  -- output 159 for a message of 128
-    ∷ record { got = found (openChecks 1 4 32 16 0 31 0); want = 8 ∷ 0 ∷ [] }  -- parcel of 31 bytes, and of 32
+    ∷ record { got = found (sealChecks 1 4 32 16 4096 65536 65568); want = 0 ∷ 0 ∷ [] }  -- header 4,096 and message 65,536 pass
+    ∷ record { got = found (sealChecks 2 6 32 16 4097 65536 65568); want = 5 ∷ 0 ∷ [] }  -- header 4,097
+    ∷ record { got = found (sealChecks 2 6 32 16 4096 65537 65569); want = 6 ∷ 0 ∷ [] }  -- message 65,537
+    ∷ record { got = found (openChecks 1 4 32 16 0 31 0); want = 8 ∷ 0 ∷ [] }  -- parcel of 31 bytes, and of 32: an empty message or 9, as P10's among card 4's rows
     ∷ record { got = found (openChecks 2 6 32 16 0 32 0); want = 0 ∷ 0 ∷ [] }
-    ∷ record { got = found (convertChecks 1 4 32 16 0 160 159); want = 7 ∷ 0 ∷ [] }  -- convert: output 159 for a parcel of 160
-    ∷ record { got = found (convertChecks 1 4 32 16 0 160 160); want = 0 ∷ 0 ∷ [] }
-    ∷ record { got = found (sealRunChecks 1 4 32 16 0 127 159 20); want = 7 ∷ 0 ∷ [] }  -- a run: 20 words for no whole block, and 21
-    ∷ record { got = found (sealRunChecks 1 4 32 16 0 127 159 21); want = 0 ∷ 0 ∷ [] }
-    ∷ record { got = found (openRunChecks 2 12 32 16 4096 160 128 52); want = 7 ∷ 0 ∷ [] }  -- 52 words for a header of 32 blocks
-    ∷ record { got = runLength 4096 128 ∷ runLength 4095 65536 ∷ runLength 0 65535 ∷ []; want = 53 ∷ 533 ∷ 532 ∷ [] }
-    ∷ record { got = found (jumpChecks 128 (pos 65536) (negsuc 65535) (pos 0) 128); want = 0 ∷ 0 ∷ [] }  -- net counts 65,536 and -65,536
-    ∷ record { got = found (jumpChecks 128 (pos 0) (pos 65537) (pos 0) 128); want = 11 ∷ 0 ∷ [] }
+    ∷ record { got = found (sealChecks 1 4 32 16 0 128 159); want = 7 ∷ 0 ∷ [] }  -- output 159 for a message of 128
+    ∷ record { got = found (jumpChecks 128 (pos 65536) (negsuc 65535) (pos 0) 128); want = 0 ∷ 0 ∷ [] }  -- net counts 65,536 and -65,536 pass
+    ∷ record { got = found (jumpChecks 128 (pos 0) (pos 65537) (pos 0) 128); want = 11 ∷ 0 ∷ [] }  -- 65,537
     ∷ record { got = found (walkChecks 128 (1 ∷ 7 ∷ 0 ∷ []) 128); want = 12 ∷ 1 ∷ [] }  -- steps 1, 7, 0
+    ∷ record { got = gamma (word 0 1); want = set (set (word 0 1) 14 0x0020000000000000) 15 0x0020000000000000 }  -- maskwalk's example
+    -- ---- grounds of document 01's table that the sheet has no line for, where those behind them hold too
+    ∷ record { got = found (sealChecks 3 5 31 15 4097 0 0); want = 1 ∷ 0 ∷ [] }  -- mode 3
+    ∷ record { got = found (openChecks 2 4 32 15 4097 31 0); want = 4 ∷ 0 ∷ [] }  -- nonce 15 bytes
+    ∷ record { got = found (walkChecks 127 (7 ∷ []) 0); want = 10 ∷ 0 ∷ [] }  -- start 127 bytes
+    ∷ record { got = found (jumpChecks 127 (pos 65537) (pos 0) (pos 0) 0); want = 10 ∷ 0 ∷ [] }
+    ∷ record { got = found (walkChecks 128 (times (λ s. 7 ∷ s) 4097 []) 0); want = 13 ∷ 0 ∷ [] }  -- 4,097 steps
+    -- ---- card 1: the store
     ∷ record { got = fresh 2; want = 0 ∷ 0 ∷ 1 ∷ 0 ∷ zeros 124 }  -- a formatted store: two cells, and three of them chained
     ∷ record { got = free (fresh 3); want = 1 ∷ 2 ∷ [] }
     ∷ record { got = found (formatChecks (zeros 64)); want = 14 ∷ 0 ∷ [] }  -- one cell, two, and a byte more
@@ -187,11 +181,11 @@ table =
     ∷ record { got = found (formatChecks (zeros 129)); want = 14 ∷ 0 ∷ [] }
     ∷ record { got = found (takeChecks (zeros 32) (paid 1) (fresh 2)); want = 0 ∷ 0 ∷ [] }  -- a take passes, with a key of 32 bytes
     ∷ record { got = found (takeChecks (zeros 31) (paid 1) (fresh 2)); want = 3 ∷ 0 ∷ [] }
-    ∷ record { got = found (takeChecks (zeros 32) (paid 1) (filled (taken 7 1) (fresh 2))); want = 16 ∷ 0 ∷ [] }  -- the same numbers again: 16 before 15
-    ∷ record { got = found (takeChecks (zeros 32) (paid 1) (filled (taken 7 2) (fresh 2))); want = 15 ∷ 0 ∷ [] }
+    ∷ record { got = found (takeChecks (zeros 32) (paid 1) (filled (bodyNamed 7 1) (fresh 2))); want = 16 ∷ 0 ∷ [] }  -- the same numbers again: 16 before 15
+    ∷ record { got = found (takeChecks (zeros 32) (paid 1) (filled (bodyNamed 7 2) (fresh 2))); want = 15 ∷ 0 ∷ [] }
     ∷ record { got = found (readChecks 7 1 (fresh 2)); want = 16 ∷ 0 ∷ [] }  -- absent, and there
-    ∷ record { got = found (readChecks 7 1 (filled (taken 7 1) (fresh 2))); want = 0 ∷ 0 ∷ [] }
-    ∷ record { got = emptied 0 1 (filled (taken 7 1) (fresh 2)); want = fresh 2 }  -- taken and cancelled: as it was
+    ∷ record { got = found (readChecks 7 1 (filled (bodyNamed 7 1) (fresh 2))); want = 0 ∷ 0 ∷ [] }
+    ∷ record { got = emptied 0 1 (filled (bodyNamed 7 1) (fresh 2)); want = fresh 2 }  -- taken and cancelled: as it was
     ∷ record {
       got = bodyFor sampleKey (paid 1);
       want = 7 ∷ 0 ∷ 0 ∷ 0 ∷ 1 ∷ (zeros 11
@@ -199,6 +193,73 @@ table =
           ∷ tag 0x97ee3b7cf3049f21 0x52e9c6a734e9815f 0xac3e9f2dd5c7620b 0x83fc528bec786a11));
     }  -- a sale's 61 bytes, sealed from card 4's start; no passage of documents 01 and 02
     ∷ record { got = cashOf (paid 1) ∷ cashOf (paid 2) ∷ []; want = 150 ∷ 0 ∷ [] }  -- means 1 counts, means 2 does not
+    -- ---- card 2: rounds
+    ∷ record { got = found (sealChecks 1 8 32 16 0 0 32); want = 0 ∷ 0 ∷ [] }  -- 8 and 12 pass, 10 does not
+    ∷ record { got = found (openChecks 2 12 32 16 0 32 0); want = 0 ∷ 0 ∷ [] }
+    ∷ record { got = found (openChecks 1 10 32 16 0 32 0); want = 2 ∷ 0 ∷ [] }
+    ∷ record {
+      got = emptyDigest;
+      want = 0x03590142f7026a78 ∷ 0x72d2522585fdc6c6 ∷ 0x614758e140472f91 ∷ 0x19541ff717e2868a
+          ∷ 0x5358eeaf31105ed2 ∷ 0x4bb04e9344648913 ∷ 0x55b748145b683a90 ∷ 0xcee29bfe1a706fd5 ∷ [];
+    }  -- twelve rounds: BLAKE2b's digest of the empty message
+    -- ---- card 4: the start
+    ∷ record { got = startBlock 4 sampleKey sampleNonce; want = sampleWords 4 256 }  -- before P, with each allowed count
+    ∷ record { got = startBlock 6 sampleKey sampleNonce; want = sampleWords 6 256 }
+    ∷ record { got = startBlock 8 sampleKey sampleNonce; want = sampleWords 8 256 }
+    ∷ record { got = startBlock 12 sampleKey sampleNonce; want = sampleWords 12 256 }
+    ∷ record { got = oldStartBlock sampleKey sampleNonce; want = sampleWords 0 0 }  -- section 4's
+    ∷ record { got = answered (openOldCall 1 4 (zeros 32) (zeros 16) [] (zeros 32) []); want = 0 ∷ 0 ∷ [] }  -- P10's parcel opens under the section 4 start, and not under card 4's: OPP
+    ∷ record { got = answered (openCall 1 4 (zeros 32) (zeros 16) [] (zeros 32) []); want = 9 ∷ 0 ∷ [] }
+    ∷ record { got = answered (openOldCall 2 4 (zeros 32) (zeros 16) [] (zeros 32) []); want = 0 ∷ 0 ∷ [] }  -- MRO
+    ∷ record { got = answered (openCall 2 4 (zeros 32) (zeros 16) [] (zeros 32) []); want = 9 ∷ 0 ∷ [] }
+    ∷ record { got = answered (openOldCall 1 4 (zeros 32) (zeros 16) [] (zeros 160) (zeros 128)); want = 0 ∷ 128 ∷ [] }  -- likewise P11's
+    ∷ record { got = answered (openCall 1 4 (zeros 32) (zeros 16) [] (zeros 160) (zeros 128)); want = 9 ∷ 0 ∷ [] }
+    ∷ record { got = answered (openOldCall 1 6 sampleKey sampleNonce [] oldOpp []); want = 0 ∷ 0 ∷ [] }  -- the empty message sealed from section 4's start, opened
+    ∷ record { got = answered (openOldCall 2 4 sampleKey sampleNonce [] oldMro []); want = 0 ∷ 0 ∷ [] }
+    -- sealed from card 4's start with a key that is not zero; no passage of documents 01 and 02
+    ∷ record {
+      got = sealCall 1 12 sampleKey sampleNonce [] [] (zeros 32) .1;
+      want = tag 0xcb215bd593499c3f 0xb73a4e61a980aa54 0xeb5ddc07390000b6 0x91a1a84f27e1fd0b;
+    }  -- the empty message, OPP with twelve rounds
+    ∷ record { got = sampleParcel 1 5 3; want = newOppParcel }  -- a leftover in header and message: under OPP the tag's mask is (0, 3, 1), and under MRO zeros alone are the padding
+    ∷ record { got = sampleParcel 2 5 3; want = newMroParcel }
+    ∷ record {
+      got = drop 120 (sampleParcel 1 133 131);
+      want = lowBytes 8 0x56a58baee4f811cc
+          ++ (0xdf ∷ 0x6e ∷ 0x16 ∷ tag 0x6dcb1e6fa310dd03 0x84e396bf967adc07 0x6ea8c3868ff47541 0x485321c76c4ec534);
+    }  -- a whole block and a leftover in each, OPP and MRO: the last eight bytes of the block, the leftover, the tag
+    ∷ record {
+      got = drop 120 (sampleParcel 2 133 131);
+      want = lowBytes 8 0x65323642f8b03859
+          ++ (0x97 ∷ 0x99 ∷ 0xed ∷ tag 0x15c7db1c46c67cdc 0x2bbf2fd10f536dbe 0x81fc8959e78a1147 0x6b65ef781c1b6cd0);
+    }
+    ∷ record {
+      got = drop 248 (sampleParcel 1 256 256);
+      want = lowBytes 8 0x8683b5fcb1db6082 ++ tag 0xb1afe39665812f52 0x352408c89263109c 0x3285be4ccaa7956e 0x4a97bddc5dc0a741;
+    }  -- two whole blocks in each, OPP and MRO: the last eight bytes of the second, the tag
+    ∷ record {
+      got = drop 248 (sampleParcel 2 256 256);
+      want = lowBytes 8 0x0e2d3234465644c2 ++ tag 0x657ffeac8d0ffc94 0xb736bb62f2a1e1ae 0xad93b1e0ddab882d 0x573526ace2e316e5;
+    }
+    -- ---- card 5: the converter
+    ∷ record { got = found (convertChecks 1 4 32 16 0 160 159); want = 7 ∷ 0 ∷ [] }  -- output 159 for a parcel of 160
+    ∷ record { got = found (convertChecks 1 4 32 16 0 160 160); want = 0 ∷ 0 ∷ [] }
+    ∷ record { got = convertCall 2 4 (zeros 32) (zeros 16) [] (zeros 32) (zeros 33) .1; want = newMro ++ (0 ∷ []) }  -- P10's MRO parcel converted
+    ∷ record { got = answered (convertCall 1 4 (zeros 32) (zeros 16) [] (zeros 32) (zeros 32)); want = 0 ∷ 32 ∷ [] }  -- what is answered for OPP's
+    ∷ record { got = answered (convertCall 2 4 (zeros 32) (zeros 16) [] newMro (zeros 32)); want = 17 ∷ 0 ∷ [] }  -- the new parcel is done already
+    ∷ record { got = convertCall 2 4 (zeros 32) (zeros 16) [] (1 ∷ zeros 31) (zeros 31 ++ (5 ∷ [])) .1; want = zeros 31 ++ (5 ∷ []) }  -- one of neither start, which changes no byte
+    ∷ record { got = answered (convertCall 2 4 (zeros 32) (zeros 16) [] (1 ∷ zeros 31) (zeros 32)); want = 9 ∷ 0 ∷ [] }
+    -- ---- card 6: the run
+    ∷ record { got = drop 16 (grown (word 0 1) 17); want = 0x0020000000000000 ∷ (zeros 15 ++ (0x0000040000000000 ∷ [])) }  -- words 16 to 32 of two runs: rotated, and
+    ∷ record { got = drop 16 (grown (word 5 1) 6); want = 0x2000 ∷ 0 ∷ 0 ∷ 0 ∷ 0 ∷ 0x0020000000000000 ∷ [] }  -- shifted
+    ∷ record { got = runLength 4096 128 ∷ runLength 4095 65536 ∷ runLength 0 65535 ∷ []; want = 53 ∷ 533 ∷ 532 ∷ [] }
+    ∷ record { got = found (sealRunChecks 1 4 32 16 0 127 159 20); want = 7 ∷ 0 ∷ [] }  -- 20 words for no whole block, and 21
+    ∷ record { got = found (sealRunChecks 1 4 32 16 0 127 159 21); want = 0 ∷ 0 ∷ [] }
+    ∷ record { got = found (openRunChecks 2 12 32 16 4096 160 128 52); want = 7 ∷ 0 ∷ [] }  -- 52 words for a header of 32 blocks
+    ∷ record { got = sealRunCall 2 4 (zeros 32) (zeros 16) [] [] (zeros 33) (zeros 21) .1 .0; want = newMro ++ (0 ∷ []) }  -- the empty message sealed from a run, MRO with four rounds
+    ∷ record { got = drop 21 (sealRunCall 1 4 (zeros 32) (zeros 16) [] [] (zeros 32) (zeros 21 ++ (5 ∷ 6 ∷ [])) .1 .1); want = 5 ∷ 6 ∷ [] }  -- what lies behind the run
+    ∷ record { got = openedFromRun 1 newOppParcel; want = 0 ∷ 3 ∷ 0 ∷ 1 ∷ 2 ∷ 9 ∷ [] }  -- opened from a run: the answer and the output
+    ∷ record { got = openedFromRun 2 (set newMroParcel 34 0); want = 9 ∷ 0 ∷ 0 ∷ 0 ∷ 0 ∷ 9 ∷ [] }  -- refused with 9, where the tag's last byte differs
     ∷ []
 
 -- row i of the table

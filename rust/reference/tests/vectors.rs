@@ -44,7 +44,7 @@ fn p11_a_zero_block_under_opp() {
     }
 }
 
-/// The rows of the table of known answers that have sealed bytes.
+/// The rows of the table of known answers that have sealed bytes, and no header.
 #[test]
 fn parcels_as_in_the_table_of_known_answers() {
     let nonce: [u8; 16] = std::array::from_fn(|i| i as u8);
@@ -68,23 +68,89 @@ fn parcels_as_in_the_table_of_known_answers() {
             "138ba1c9ea7ae80688dd4a92bfdd0083fb9d2b4aa03a335d138f65959c022d0d",
         ),
     ] {
-        assert_eq!(sealed_in_hex(start, mode, rounds, &nonce, &[]), tag);
+        assert_eq!(sealed_in_hex(start, mode, rounds, &nonce, &[], &[]), tag);
     }
     let mut sale = [0; 16];
     (sale[0], sale[4]) = (7, 1);
     let record = [150, 0, 0, 0, 4, 0, 1, 0, 0, 0, 0, 0, 0];
     assert_eq!(
-        sealed_in_hex(Start::New, MRO, 6, &sale, &record),
+        sealed_in_hex(Start::New, MRO, 6, &sale, &[], &record),
         "b1692e624070b2b269faf09cae\
          219f04f37c3bee975f81e934a7c6e9520b62c7d52d9f3eac116a78ec8b52fc83"
     );
 }
 
-/// With a key of the bytes 16 to 47 and no header.
-fn sealed_in_hex(start: Start, mode: u32, rounds: u32, nonce: &[u8], message: &[u8]) -> String {
+/// Those with a header: mode, the lengths of header and message, and the parcel from the byte on
+/// that the row begins at.
+const WITH_A_HEADER: [(u32, usize, usize, &str); 6] = [
+    (
+        OPP,
+        5,
+        3,
+        "7fb460\
+         32ed2f7c4fefc6c536cf292ff0eb486515c61badfb4583a64206edb9bc2c5019",
+    ),
+    (
+        MRO,
+        5,
+        3,
+        "88ad78\
+         fdb406fe1cf797321ff9cb746724e53b1c3f60ab449c61271bb9fcaef87a2130",
+    ),
+    (
+        OPP,
+        133,
+        131,
+        "cc11f8e4ae8ba556df6e16\
+         03dd10a36f1ecb6d07dc7a96bf96e3844175f48f86c3a86e34c54e6cc7215348",
+    ),
+    (
+        MRO,
+        133,
+        131,
+        "5938b0f8423632659799ed\
+         dc7cc6461cdbc715be6d530fd12fbf2b47118ae75989fc81d06c1b1c78ef656b",
+    ),
+    (
+        OPP,
+        256,
+        256,
+        "8260dbb1fcb58386\
+         522f816596e3afb19c106392c80824356e95a7ca4cbe853241a7c05ddcbd974a",
+    ),
+    (
+        MRO,
+        256,
+        256,
+        "c244564634322d0e\
+         94fc0f8dacfe7f65aee1a1f262bb36b72d88abdde0b193ade516e3e2ac263557",
+    ),
+];
+
+/// A header's bytes count down from 255, a message's up from 0.
+#[test]
+fn parcels_with_a_header_as_in_that_table() {
+    let up: [u8; 256] = std::array::from_fn(|i| i as u8);
+    let down = up.map(|byte| 255 - byte);
+    for (mode, header, message, end) in WITH_A_HEADER {
+        let (header, message) = (&down[..header], &up[..message]);
+        let parcel = sealed_in_hex(Start::New, mode, 4, &up[..16], header, message);
+        assert_eq!(&parcel[parcel.len() - end.len()..], end);
+    }
+}
+
+/// With a key of the bytes 16 to 47.
+fn sealed_in_hex(
+    start: Start,
+    mode: u32,
+    rounds: u32,
+    nonce: &[u8],
+    header: &[u8],
+    message: &[u8],
+) -> String {
     let key: [u8; 32] = std::array::from_fn(|i| 16 + i as u8);
     let mut parcel = vec![0; message.len() + 32];
-    let inputs = [&key, nonce, &[], message];
+    let inputs = [&key, nonce, header, message];
     let answer = seal_under(start, mode, rounds, inputs, &mut parcel);
     assert_eq!(answer, Ok(parcel.len()));
     parcel.iter().map(|byte| format!("{byte:02x}")).collect()
