@@ -30,10 +30,10 @@ use Rattle.store.specs.Store.{formChecks, keyChecks, formatChecks, takeChecks, 
 use Rattle.words.proofs.Truth.{allBelow, carried}
 use Rattle.blockplan.proofs.Compared.{same-true}
 use Rattle.known_answers.proofs.Zeros.{zero-tags, zero-parcel}
-use Rattle.known_answers.specs.KnownAnswers.{word, g, workVector, emptyDigest, full, sampleKey, sampleNonce, sampleHeader, sampleMessage, sampleWords, tag, oldOpp, oldMro, newMro, newOppParcel, newMroParcel, sampleParcel, openedFromRun, sealedOld, answered, paid, bodyNamed, table, rowAt, KnownAnswers}
+use Rattle.known_answers.specs.KnownAnswers.{word, g, workVector, emptyDigest, full, sampleKey, sampleNonce, sampleHeader, sampleMessage, sampleWords, tag, oldOpp, oldMro, newOpp, newMro, newOppParcel, newMroParcel, sampleParcel, openedFromRun, sealedOld, answered, paid, bodyNamed, table, rowAt, KnownAnswers}
 
 computed : allBelow (λ i. same (rowAt i .got) (rowAt i .want)) (length table) ≡ true
-unfolding allBelow rowAt table same word g workVector emptyDigest full sampleKey sampleNonce sampleHeader sampleMessage sampleWords tag oldOpp oldMro newMro newOppParcel newMroParcel sampleParcel openedFromRun sealedOld answered zeroBlock tab cat fold times zeros le lowBytes wordAt blockOf wordBytes bytesOf xorBytes perm backPerm startWords startBlock startOf oldStartBlock oldStartOf maskAt encipher decipher E D whole left hasLeft blockAt xorOver xorIf ciphered tagBytes padded oppSum oppCheck oppTag sealAt openAt oppStream oppCipher oppPlain blocks absorbAt mroSum lengths mroTag counter mroStream streamed mroCipher modeOf oppMode mroMode parcelOf messageOf cipherPart tagPart genuine opened gOf backGOf addW subW rotR rotL shl round backRound over backOver groups columns diagonals gAt backGAt stepAt pick put alpha alphaW beta gamma xorBlock xorAt backAlpha lineAt line room checked isMode isOneOf isRounds settings sealInputs openInputs sealChecks openChecks convertChecks converted convertCall nextWord grown larger runLength sealRunChecks openRunChecks runIn sealRunCall openRunCall verdict sealFrom openFrom sealCall openCall openOldCall isStep firstBad inRange walkChecks jumpChecks paid bodyNamed numberAt putAt chain count all below some cells firstSale firstFree nextOf kindOf bodyOf sales free lengthFits indicesFit kindFits kindsFit covered formed named present cellBytes freshCell fresh filled emptied nonceOf recordOf saleMode bodyFor cashOf formChecks keyChecks formatChecks takeChecks readChecks
+unfolding allBelow rowAt table same word g workVector emptyDigest full sampleKey sampleNonce sampleHeader sampleMessage sampleWords tag oldOpp oldMro newOpp newMro newOppParcel newMroParcel sampleParcel openedFromRun sealedOld answered zeroBlock tab cat fold times zeros le lowBytes wordAt blockOf wordBytes bytesOf xorBytes perm backPerm startWords startBlock startOf oldStartBlock oldStartOf maskAt encipher decipher E D whole left hasLeft blockAt xorOver xorIf ciphered tagBytes padded oppSum oppCheck oppTag sealAt openAt oppStream oppCipher oppPlain blocks absorbAt mroSum lengths mroTag counter mroStream streamed mroCipher modeOf oppMode mroMode parcelOf messageOf cipherPart tagPart genuine opened gOf backGOf addW subW rotR rotL shl round backRound over backOver groups columns diagonals gAt backGAt stepAt pick put alpha alphaW beta gamma xorBlock xorAt backAlpha lineAt line room checked isMode isOneOf isRounds settings sealInputs openInputs sealChecks openChecks convertChecks converted convertCall nextWord grown larger runLength sealRunChecks openRunChecks runIn sealRunCall openRunCall verdict sealFrom openFrom sealCall openCall openOldCall isStep firstBad inRange walkChecks jumpChecks paid bodyNamed numberAt putAt chain count all below some cells firstSale firstFree nextOf kindOf bodyOf sales free lengthFits indicesFit kindFits kindsFit covered formed named present cellBytes freshCell fresh filled emptied nonceOf recordOf saleMode bodyFor cashOf formChecks keyChecks formatChecks takeChecks readChecks
 computed = refl
 
 pub known-answers : KnownAnswers

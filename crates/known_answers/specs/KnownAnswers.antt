@@ -95,7 +95,10 @@ oldOpp = tag 0x71fdb03dd1b2e91e 0x8058ed009340cf93 0xe069c35c13e7debe 0x514c91cc
 unfoldable pub oldMro : List ℕ
 oldMro = tag 0x06e87aeac9a18b13 0x8300ddbf924add88 0x5d333aa04a2b9dfb 0x0d2d029c95658f13
 
--- that of the empty message with zero key and nonce, MRO with four rounds, from card 4's start; no passage of documents 01 and 02
+-- that of the empty message with zero key and nonce and four rounds, from card 4's start, OPP and MRO; no passage of documents 01 and 02
+unfoldable pub newOpp : List ℕ
+newOpp = tag 0x497fc0822da209e5 0xcc7f9305b4dfc236 0x6edc4e9f41c40436 0x6f0ca90236c96054
+
 unfoldable pub newMro : List ℕ
 newMro = tag 0x1802b346e068fc82 0x82aad085481337eb 0xf36f7b664cdc81b1 0x7bc30c42aabf07b6
 
@@ -111,12 +114,6 @@ unfoldable pub sampleParcel : ℕ → ℕ → ℕ → List ℕ
 sampleParcel mode header message =
     sealCall mode 4 sampleKey sampleNonce (sampleHeader header) (sampleMessage message) (zeros (message + 32)) .1
 
--- what opening such a parcel from a run answers, and what it leaves in an output of four bytes
-unfoldable pub openedFromRun : ℕ → List ℕ → List ℕ
-openedFromRun mode parcel =
-    let r = openRunCall mode 4 sampleKey sampleNonce (sampleHeader 5) parcel (9 ∷ 9 ∷ 9 ∷ 9 ∷ []) (zeros 21) in
-    numberOf (r .0) ∷ valueOf (r .0) ∷ r .1 .0
-
 -- the parcel of a message with zero key and nonce and an empty header, over the section 4 start
 unfoldable pub sealedOld : ℕ → ℕ → List ℕ → List ℕ
 sealedOld mode rounds message = parcelOf (modeOf mode rounds (oldStartOf rounds (zeros 32) (zeros 16))) [] message
@@ -126,9 +123,15 @@ abbrev pub found : Check → List ℕ
 found Clear = 0 ∷ 0 ∷ []
 found (Fails ground place) = groundNumber ground ∷ place ∷ []
 
--- what a call answers: the number, 0 where nothing is refused, and the value or the place
+-- what a call answers, the number, 0 where nothing is refused, and the value or the place; then what it leaves in the output
 unfoldable pub answered : Answer × List ℕ → List ℕ
-answered r = numberOf (r .0) ∷ valueOf (r .0) ∷ []
+answered r = numberOf (r .0) ∷ valueOf (r .0) ∷ r .1
+
+-- opening a parcel of that header from a run, into an output of four bytes
+unfoldable pub openedFromRun : ℕ → List ℕ → List ℕ
+openedFromRun mode parcel =
+    let r = openRunCall mode 4 sampleKey sampleNonce (sampleHeader 5) parcel (9 ∷ 9 ∷ 9 ∷ 9 ∷ []) (zeros 21) in
+    answered (r .0, r .1 .0)
 
 -- a sale of 150 cents
 unfoldable pub paid : ℕ → Sale
@@ -212,8 +215,8 @@ table =
     ∷ record { got = answered (openCall 1 4 (zeros 32) (zeros 16) [] (zeros 32) []); want = 9 ∷ 0 ∷ [] }
     ∷ record { got = answered (openOldCall 2 4 (zeros 32) (zeros 16) [] (zeros 32) []); want = 0 ∷ 0 ∷ [] }  -- MRO
     ∷ record { got = answered (openCall 2 4 (zeros 32) (zeros 16) [] (zeros 32) []); want = 9 ∷ 0 ∷ [] }
-    ∷ record { got = answered (openOldCall 1 4 (zeros 32) (zeros 16) [] (zeros 160) (zeros 128)); want = 0 ∷ 128 ∷ [] }  -- likewise P11's
-    ∷ record { got = answered (openCall 1 4 (zeros 32) (zeros 16) [] (zeros 160) (zeros 128)); want = 9 ∷ 0 ∷ [] }
+    ∷ record { got = answered (openOldCall 1 4 (zeros 32) (zeros 16) [] (zeros 160) (zeros 128)); want = 0 ∷ 128 ∷ zeros 128 }  -- likewise P11's
+    ∷ record { got = answered (openCall 1 4 (zeros 32) (zeros 16) [] (zeros 160) (zeros 128)); want = 9 ∷ 0 ∷ zeros 128 }
     ∷ record { got = answered (openOldCall 1 6 sampleKey sampleNonce [] oldOpp []); want = 0 ∷ 0 ∷ [] }  -- the empty message sealed from section 4's start, opened
     ∷ record { got = answered (openOldCall 2 4 sampleKey sampleNonce [] oldMro []); want = 0 ∷ 0 ∷ [] }
     -- sealed from card 4's start with a key that is not zero; no passage of documents 01 and 02
@@ -244,11 +247,10 @@ table =
     -- ---- card 5: the converter
     ∷ record { got = found (convertChecks 1 4 32 16 0 160 159); want = 7 ∷ 0 ∷ [] }  -- output 159 for a parcel of 160
     ∷ record { got = found (convertChecks 1 4 32 16 0 160 160); want = 0 ∷ 0 ∷ [] }
-    ∷ record { got = convertCall 2 4 (zeros 32) (zeros 16) [] (zeros 32) (zeros 33) .1; want = newMro ++ (0 ∷ []) }  -- P10's MRO parcel converted
-    ∷ record { got = answered (convertCall 1 4 (zeros 32) (zeros 16) [] (zeros 32) (zeros 32)); want = 0 ∷ 32 ∷ [] }  -- what is answered for OPP's
-    ∷ record { got = answered (convertCall 2 4 (zeros 32) (zeros 16) [] newMro (zeros 32)); want = 17 ∷ 0 ∷ [] }  -- the new parcel is done already
-    ∷ record { got = convertCall 2 4 (zeros 32) (zeros 16) [] (1 ∷ zeros 31) (zeros 31 ++ (5 ∷ [])) .1; want = zeros 31 ++ (5 ∷ []) }  -- one of neither start, which changes no byte
-    ∷ record { got = answered (convertCall 2 4 (zeros 32) (zeros 16) [] (1 ∷ zeros 31) (zeros 32)); want = 9 ∷ 0 ∷ [] }
+    ∷ record { got = answered (convertCall 1 4 (zeros 32) (zeros 16) [] (zeros 32) (zeros 33)); want = 0 ∷ 32 ∷ (newOpp ++ (0 ∷ [])) }  -- P10's parcels converted, OPP and MRO
+    ∷ record { got = answered (convertCall 2 4 (zeros 32) (zeros 16) [] (zeros 32) (zeros 33)); want = 0 ∷ 32 ∷ (newMro ++ (0 ∷ [])) }
+    ∷ record { got = answered (convertCall 2 4 (zeros 32) (zeros 16) [] newMro (zeros 32)); want = 17 ∷ 0 ∷ zeros 32 }  -- the new parcel is done already
+    ∷ record { got = answered (convertCall 2 4 (zeros 32) (zeros 16) [] (1 ∷ zeros 31) (zeros 31 ++ (5 ∷ []))); want = 9 ∷ 0 ∷ (zeros 31 ++ (5 ∷ [])) }  -- one of neither start: no byte changes
     -- ---- card 6: the run
     ∷ record { got = drop 16 (grown (word 0 1) 17); want = 0x0020000000000000 ∷ (zeros 15 ++ (0x0000040000000000 ∷ [])) }  -- words 16 to 32 of two runs: rotated, and
     ∷ record { got = drop 16 (grown (word 5 1) 6); want = 0x2000 ∷ 0 ∷ 0 ∷ 0 ∷ 0 ∷ 0x0020000000000000 ∷ [] }  -- shifted

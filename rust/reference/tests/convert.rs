@@ -91,17 +91,25 @@ fn p10_and_p11_are_old_parcels() {
     }
 }
 
-/// The row of the table of known answers that has converted bytes.
+/// The rows of the table of known answers that have converted bytes.
 #[test]
-fn p10_becomes_the_parcel_of_the_table_of_known_answers() {
-    let mut parcel = [BEFORE; 32];
+fn p10_becomes_the_parcels_of_the_table_of_known_answers() {
     let inputs: [&[u8]; 4] = [&[0; 32], &[0; 16], &[], &[0; 32]];
-    assert_eq!(convert(MRO, 4, inputs, &mut parcel), Ok(32));
-    let parcel: String = parcel.iter().map(|byte| format!("{byte:02x}")).collect();
-    assert_eq!(
-        parcel,
-        "82fc68e046b30218eb37134885d0aa82b181dc4c667b6ff3b607bfaa420cc37b"
-    );
+    for (mode, wanted) in [
+        (
+            OPP,
+            "e509a22d82c07f4936c2dfb405937fcc3604c4419f4edc6e5460c93602a90c6f",
+        ),
+        (
+            MRO,
+            "82fc68e046b30218eb37134885d0aa82b181dc4c667b6ff3b607bfaa420cc37b",
+        ),
+    ] {
+        let mut parcel = [BEFORE; 32];
+        assert_eq!(convert(mode, 4, inputs, &mut parcel), Ok(32));
+        let parcel: String = parcel.iter().map(|byte| format!("{byte:02x}")).collect();
+        assert_eq!(parcel, wanted);
+    }
 }
 
 #[test]
