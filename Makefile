@@ -14,7 +14,7 @@ wide := target/x86-64-v3/libcalmbaize.a
 # All that the proofs read; a folder is newer where a file came or went.
 sources := crates.txt $(shell find crates -name must-fail -prune -o -print)
 # One line where the prover is missing, else nothing.
-no_prover = $(shell tools/need.sh rt '' 2>&1)
+no_prover = $(shell . tools/lib.sh; need rt '' 2>&1)
 
 # make help prints what stands behind ## beside each target.
 
@@ -32,7 +32,7 @@ $(archive) $(wide) &: $(sources) tools/kit.sh tools/compile.sh
 	@RATTLE_HOME=$$(tools/kit.sh target/kit $(wide)) && export RATTLE_HOME && tools/prove.sh staticlib calmbaize
 
 tool: dist ## builds the command line tool
-	@tools/need.sh cargo cargo
+	@. tools/lib.sh; need cargo cargo
 	@cd rust && cargo build --offline --release --quiet --package calmbaize-cli
 	@echo "tool: $(TOOL)"
 
@@ -46,8 +46,7 @@ planted: tools ## the outside checks, seen to fail on faulty libraries, headers 
 	@tools/planted.sh
 
 bench: dist ## measures, writes docs/BENCHMARKS.md and the table and picture beside it, and says what got worse
-	@tools/need.sh cargo cargo
-	@tools/need.sh pkg:libsodium-dev libsodium-dev
+	@. tools/lib.sh; need cargo cargo && need pkg:libsodium-dev libsodium-dev
 	@cd rust && cargo run --offline --release --quiet --package bench -- --docs ../docs $(if $(wildcard target/gate.times),--gate ../target/gate.times)
 
 install: ## copies what make built below PREFIX (/usr/local) and LIBDIR (PREFIX/lib), DESTDIR put before both
@@ -57,10 +56,7 @@ uninstall: ## takes away what make install put there
 	@tools/install.sh uninstall "$(DIST)" "$(TOOL)"
 
 tools: ## sees that what the checks need beside the toolchain is there, or installs it
-	@tools/need.sh cargo cargo
-	@tools/need.sh c++ g++
-	@tools/need.sh valgrind valgrind
-	@tools/need.sh pkg-config pkg-config
+	@. tools/lib.sh; need cargo cargo && need c++ g++ && need valgrind valgrind && need pkg-config pkg-config
 
 clean: ## removes all that was built
 	rm -rf target dist rust/target

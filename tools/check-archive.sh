@@ -9,19 +9,12 @@ set -eu
 
 root=$(cd "$(dirname "$0")/.." && pwd)
 archive=${1:-$root/dist}/libcalmbaize.a
-passed=0
-failed=0
+# shellcheck source=tools/lib.sh
+. "$root/tools/lib.sh"
 
-if [ ! -f "$archive" ]; then
-    echo "check-archive: $archive is missing: run make" >&2
-    exit 2
-fi
-
-if ! nm "$archive" > /dev/null; then
-    echo "check-archive: nm can't read $archive" >&2
-    exit 2
-fi
-calls=$("$root/tools/calls.sh" "$root/include/calmbaize.h") || exit 2
+files "$archive"
+nm "$archive" > /dev/null || cant_run "nm can't read $archive"
+calls=$(calls "$root/include/calmbaize.h") || exit 2
 calls=$(echo "$calls" | sed 's/(.*//')
 
 # result WHAT NAMES: passes where no name is given.
@@ -58,5 +51,4 @@ result "neither code nor constant" "$(symbols --defined-only | grep -v '^[TtRr] 
 # of its time.
 result "left as a call" "$(symbols --defined-only | names | grep -E '^(permutation|lanes)' || true)"
 
-echo "$passed passed, $failed failed"
-[ "$failed" -eq 0 ]
+counted

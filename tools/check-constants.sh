@@ -9,20 +9,15 @@ set -u
 root=$(cd "$(dirname "$0")/.." && pwd)
 folder=${1:-$root/dist}
 include=${2:-$folder}
-work=$(mktemp -d) || exit 2
-trap 'rm -rf "$work"' EXIT
+# shellcheck source=tools/lib.sh
+. "$root/tools/lib.sh"
+work_folder
 # What these state is no answer of a call: the checks of the header, of the stack and of what is
 # installed hold them.
 elsewhere='CALMBAIZE_(H|VERSION(_[A-Z]+)?|NODISCARD|[A-Z_]+_STACK_BYTES|FORMAT)'
 
-for file in "$folder/libcalmbaize.a" "$include/calmbaize.h"; do
-    if [ ! -f "$file" ]; then
-        echo "check-constants: $file is missing: run make" >&2
-        exit 2
-    fi
-done
-"${CC:-cc}" -std=c99 -O1 -Wall -Wextra -I "$include" "$root/tools/constants.c" \
-    "$folder/libcalmbaize.a" -o "$work/constants" || exit 2
+files "$folder/libcalmbaize.a" "$include/calmbaize.h"
+compile constants "$folder/libcalmbaize.a" -I "$include"
 "$work/constants" > "$work/log" || exit 2
 
 sed -nE 's/^[[:space:]]*#[[:space:]]*define[[:space:]]+(CALMBAIZE_[A-Za-z0-9_]+).*/\1/p' \
@@ -35,6 +30,5 @@ sed 's/^[a-z]* //' "$work/log" | sort -u > "$work/tried"
 sed 's/^/  failed: /' "$work/failed"
 
 passed=$(grep -c '^held ' "$work/log")
-failed=$(wc -l < "$work/failed")
-echo "$passed passed, $((failed)) failed"
-[ "$failed" -eq 0 ]
+failed=$(($(wc -l < "$work/failed")))
+counted

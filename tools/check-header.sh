@@ -1,6 +1,7 @@
 #!/bin/sh
 # Compiles calmbaize.h by itself as C and C++, every warning an error, and checks the constants, the
 # version, the way an answer is taken apart, the length of a run, and that a dropped answer is warned of.
+# The wrapper in Rust declares the same calls: rust/calmbaize/src/ffi.rs.
 #
 # usage: check-header.sh [FOLDER]
 #
@@ -9,22 +10,17 @@ set -u
 
 root=$(cd "$(dirname "$0")/.." && pwd)
 folder=${1:-$root/include}
-version=$("$root/tools/version.sh")
-work=$(mktemp -d) || exit 2
-trap 'rm -rf "$work"' EXIT
-passed=0
-failed=0
+# shellcheck source=tools/lib.sh
+. "$root/tools/lib.sh"
+work_folder
+version=$(version)
+ffi=$root/rust/calmbaize/src/ffi.rs
 
-if ! "$root/tools/calls.sh" "$folder/calmbaize.h" > "$work/calls"; then
-    echo "check-header: $folder/calmbaize.h is missing or declares no call" >&2
-    exit 2
-fi
-
+calls "$folder/calmbaize.h" > "$work/calls" ||
+    cant_run "$folder/calmbaize.h is missing or declares no call"
 for compiler in "${CC:-cc}" "${CXX:-c++}"; do
-    if ! command -v "$compiler" > /dev/null; then
-        echo "check-header: $compiler is missing: install gcc and g++, or set CC and CXX" >&2
-        exit 2
-    fi
+    command -v "$compiler" > /dev/null ||
+        cant_run "$compiler is missing: install gcc and g++, or set CC and CXX"
 done
 
 cat > "$work/answer.c" <<'END'
@@ -55,49 +51,80 @@ int main(void)
 END
 cp "$work/answer.c" "$work/answer.cpp"
 
-# A call whose answer is returned, or dropped where ANSWER is nothing.
-cat > "$work/drop.c" <<'END'
-#include "calmbaize.h"
-
-uint64_t take(void);
-uint64_t take(void)
+# Each call in a line of its own, below the first: its answer is returned, or dropped where ANSWER is nothing.
 {
-    ANSWER CALL;
-    return 0;
-}
-END
+    echo '#include "calmbaize.h"'
+    sed -E 's/[^(,)]+([,)])/0\1/g; s/.*/uint64_t take_LINE(void); uint64_t take_LINE(void) { ANSWER &; return 0; }/' \
+        "$work/calls" | awk '{ gsub(/LINE/, NR); print }'
+} > "$work/drop.c"
 cp "$work/drop.c" "$work/drop.cpp"
 
-# shellcheck source=tools/count.sh
-. "$root/tools/count.sh"
-
-# compile COMPILER WORDS...: every warning is an error.
-compile() {
+# strictly COMPILER WORDS...: every warning is an error.
+strictly() {
     "$@" -Wall -Wextra -Wpedantic -Wundef -Wconversion -Wno-long-long -Werror -I "$folder"
 }
 
 # Splits the version into the three numbers.
 runs() {
     rest=${version#*.}
-    compile "$@" "-DVERSION=\"$version\"" "-DMAJOR=${version%%.*}" "-DMINOR=${rest%%.*}" \
+    strictly "$@" "-DVERSION=\"$version\"" "-DMAJOR=${version%%.*}" "-DMINOR=${rest%%.*}" \
         "-DPATCH=${rest#*.}" -o "$work/answer" && "$work/answer"
 }
 
-# Where the answer is dropped the compiler must stop, and for that reason.
-warns() {
-    ! compile "$@" -DANSWER= -c -o "$work/drop.o" 2> "$work/log" && grep -q unused-result "$work/log"
-}
-
-takes() {
-    compile "$@" -DANSWER=return -c -o "$work/drop.o"
-}
-
-# answers COMPILER WORDS...: for each call.
+# answers COMPILER FILE WORDS...: of each call. Where it is dropped the compiler must say so on its line, and
+# where it is used nothing.
 answers() {
+    file=$2
+    rm -f "$work/drop.o"
+    strictly "$@" -DANSWER= -c -o "$work/dropped.o" 2> "$work/dropped"
+    strictly "$@" -DANSWER=return -c -o "$work/drop.o" 2> "$work/used"
+    line=1
     while IFS= read -r call; do
-        count "header: $call dropped without a warning: $*" warns "$@" "-DCALL=$call"
-        count "header: $call not taken with its answer used: $*" takes "$@" "-DCALL=$call"
+        line=$((line + 1))
+        count "header: dropped without a warning: $*: $call" grep -q "^$file:$line:.*unused-result" "$work/dropped"
+        count "header: not taken with its answer used: $*: $call" says_nothing "^$file:$line:"
     done < "$work/calls"
+}
+
+says_nothing() {
+    [ -e "$work/drop.o" ] && ! grep "$1" "$work/used"
+}
+
+# The header's calls as Rust writes them: pointers are *const or *mut, and arrays are pointers.
+in_rust() {
+    awk -F '[(,)]' '{
+        call = $1 "("
+        for (i = 2; i < NF; i++) {
+            parameter = $i
+            pointer = sub(/\[.*/, "", parameter) + gsub(/\*/, "", parameter)
+            constant = sub(/const /, "", parameter)
+            split(parameter, word, " ")
+            sub(/_t$/, "", word[1])
+            sub(/^uint/, "u", word[1])
+            sub(/^int/, "i", word[1])
+            sub(/^size/, "usize", word[1])
+            call = call (i > 2 ? ", " : "") word[2] ": " (pointer ? (constant ? "*const " : "*mut ") : "") word[1]
+        }
+        print call ") -> u64;"
+    }' "$work/calls"
+}
+
+# The functions that the wrapper declares, one to a line.
+of_wrapper() {
+    awk '
+        /^extern "C"/, /^}/ {
+            if (sub(/^ *pub fn /, "")) { call = ""; inside = 1 }
+            if (inside) call = call " " $0
+            if (inside && /;$/) {
+                inside = 0
+                gsub(/ +/, " ", call)
+                sub(/^ /, "", call)
+                sub(/\( /, "(", call)
+                sub(/, \)/, ")", call)
+                print call
+            }
+        }
+    ' "$ffi"
 }
 
 for standard in c99 c11 c17; do
@@ -107,9 +134,15 @@ for standard in c++98 c++11 c++17; do
     # The types of 64 bits are long long on some machines, which C++98 does not have.
     count "header: $standard" runs "${CXX:-c++}" "-std=$standard" "$work/answer.cpp"
 done
-answers "${CC:-cc}" -std=c99 "$work/drop.c"
-answers "${CXX:-c++}" -std=c++98 "$work/drop.cpp"
-answers "${CXX:-c++}" -std=c++17 "$work/drop.cpp"
+answers "${CC:-cc}" "$work/drop.c" -std=c99
+answers "${CXX:-c++}" "$work/drop.cpp" -std=c++98
+answers "${CXX:-c++}" "$work/drop.cpp" -std=c++17
 
-echo "$passed passed, $failed failed"
-[ "$failed" -eq 0 ]
+in_rust > "$work/in-rust"
+of_wrapper > "$work/wrapper"
+while IFS= read -r call; do
+    count "header: not so in ${ffi##*/}: $call" grep -qxF "$call" "$work/wrapper"
+done < "$work/in-rust"
+count "header: other calls in ${ffi##*/}" [ "$(wc -l < "$work/wrapper")" -eq "$(wc -l < "$work/calls")" ]
+
+counted

@@ -10,29 +10,20 @@ set -u
 
 root=$(cd "$(dirname "$0")/.." && pwd)
 folder=${1:-$root/dist}
-work=$(mktemp -d) || exit 2
-trap 'rm -rf "$work"' EXIT
+# shellcheck source=tools/lib.sh
+. "$root/tools/lib.sh"
+work_folder
 prefix=/opt/calmbaize
 # Else make would take it from the environment.
 unset LIBDIR
-passed=0
-failed=0
 
 for program in pkg-config make "${CC:-cc}"; do
-    if ! command -v "$program" > /dev/null; then
-        echo "check-install: $program is missing: install Debian's package pkg-config, make or gcc" >&2
-        exit 2
-    fi
+    command -v "$program" > /dev/null ||
+        cant_run "$program is missing: install Debian's package pkg-config, make or gcc"
 done
-for archive in "$folder/libcalmbaize.a" "$folder/x86-64-v3/libcalmbaize.a"; do
-    if [ ! -f "$archive" ]; then
-        echo "check-install: $archive is missing: run make" >&2
-        exit 2
-    fi
-done
-
-# shellcheck source=tools/count.sh
-. "$root/tools/count.sh"
+files "$folder/libcalmbaize.a" "$folder/x86-64-v3/libcalmbaize.a"
+# Parcels of the old start are made by it.
+"${CC:-cc}" -std=c99 -c "$root/c/baseline.c" -o "$work/baseline.o" || exit 2
 
 make_to() {
     make --no-print-directory -C "$root" "$@" DIST="$folder" TOOL="$work/tool" PREFIX="$prefix" \
@@ -48,9 +39,9 @@ flags() {
 program_runs() {
     # Flags are words.
     # shellcheck disable=SC2046
-    "${CC:-cc}" -std=c99 -Wall -Wextra -Werror $(flags --cflags) "$root/tools/installed.c" \
-        $(flags --libs) -o "$work/installed" || return
-    if [ "$1" = "$folder" ] || "$root/tools/avx2.sh"; then
+    "${CC:-cc}" -std=c99 -Wall -Wextra -Werror $(flags --cflags) -I "$root/c" "$root/tools/installed.c" \
+        "$root/tools/calls.c" "$work/baseline.o" $(flags --libs) -o "$work/installed" || return
+    if [ "$1" = "$folder" ] || avx2; then
         "$work/installed"
     else
         echo "  built and not run, since this processor has no AVX2: a C program over $1"
@@ -58,7 +49,7 @@ program_runs() {
 }
 
 version_is_right() {
-    [ "$(flags --modversion)" = "$("$root/tools/version.sh")" ]
+    [ "$(flags --modversion)" = "$(version)" ]
 }
 
 # archive_is_right FROM: both archives have one name, and pkg-config leads to the right one.
@@ -110,5 +101,4 @@ for from in "$folder" "$folder/x86-64-v3"; do
     check_archive "no install, $from" "$from"
 done
 
-echo "$passed passed, $failed failed"
-[ "$failed" -eq 0 ]
+counted

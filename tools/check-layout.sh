@@ -12,8 +12,8 @@ folder=${1:-$root}
 build=$root/rust/target/layout
 log=$(mktemp) || exit 2
 trap 'rm -f "$log"' EXIT
-passed=0
-failed=0
+# shellcheck source=tools/lib.sh
+. "$root/tools/lib.sh"
 
 # run NAME PROBE COMMAND...: PROBE is a command that shows that it is installed.
 run() {
@@ -45,6 +45,5 @@ cd rust || exit 2
 run "cargo fmt --check" "cargo fmt --version" cargo fmt --all --check
 run "cargo clippy" "cargo clippy --version" clippy
 
-echo "$passed passed, $failed failed"
-[ $((passed + failed)) -gt 0 ] || exit 2
-[ "$failed" -eq 0 ]
+[ $((passed + failed)) -gt 0 ] || cant_run "none of them is installed"
+counted

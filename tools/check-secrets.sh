@@ -8,20 +8,16 @@ set -eu
 
 root=$(cd "$(dirname "$0")/.." && pwd)
 folder=${1:-$root/dist}
-work=$(mktemp -d) || exit 2
-trap 'rm -rf "$work"' EXIT
+# shellcheck source=tools/lib.sh
+. "$root/tools/lib.sh"
+work_folder
 
 if ! command -v valgrind > /dev/null ||
-    ! echo '#include <valgrind/memcheck.h>' | ${CC:-cc} -E - > /dev/null 2>&1; then
-    echo "check-secrets: valgrind is missing: install Debian's package valgrind" >&2
-    exit 2
+    ! echo '#include <valgrind/memcheck.h>' | "${CC:-cc}" -E - > /dev/null 2>&1; then
+    cant_run "valgrind is missing: install Debian's package valgrind"
 fi
-if [ ! -f "$folder/libcalmbaize.a" ]; then
-    echo "check-secrets: $folder/libcalmbaize.a is missing: run make" >&2
-    exit 2
-fi
-${CC:-cc} -std=c99 -O1 -g -Wall -Wextra -I "$root/include" -I "$root/c" "$root/tools/secrets.c" \
-    "$root/c/baseline.c" "$folder/libcalmbaize.a" -o "$work/secrets" || exit 2
+files "$folder/libcalmbaize.a"
+compile secrets "$folder/libcalmbaize.a" -g
 status=0
 valgrind --quiet --error-limit=no --log-file="$work/log" "$work/secrets" ${2:+"$2"} > "$work/counts" ||
     status=$?

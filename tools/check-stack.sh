@@ -1,5 +1,5 @@
 #!/bin/sh
-# The deepest stack of each call is within what calmbaize.h states.
+# The deepest stack of each call that calmbaize.h declares is within what it states.
 #
 # usage: check-stack.sh [FOLDER]
 #
@@ -8,14 +8,14 @@ set -eu
 
 root=$(cd "$(dirname "$0")/.." && pwd)
 folder=${1:-$root/dist}
-work=$(mktemp -d) || exit 2
-trap 'rm -rf "$work"' EXIT
+# shellcheck source=tools/lib.sh
+. "$root/tools/lib.sh"
+work_folder
 
-if [ ! -f "$folder/libcalmbaize.a" ]; then
-    echo "check-stack: $folder/libcalmbaize.a is missing: run make" >&2
-    exit 2
-fi
+files "$folder/libcalmbaize.a"
+names=$(calls "$root/include/calmbaize.h") || exit 2
 # C's memory functions are bound when the program starts: binding in a call would take of its stack.
-${CC:-cc} -std=c99 -O1 -Wall -Wextra -I "$root/include" -I "$root/c" "$root/tools/stack.c" \
-    "$root/c/baseline.c" "$folder/libcalmbaize.a" -Wl,-z,now -o "$work/stack" || exit 2
-"$work/stack"
+compile stack "$folder/libcalmbaize.a" -Wl,-z,now
+# Names are words.
+# shellcheck disable=SC2046
+"$work/stack" $(echo "$names" | sed 's/^calmbaize_//; s/(.*//')

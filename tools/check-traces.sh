@@ -1,8 +1,8 @@
 #!/bin/sh
 # Where the store's answer tells whether a sale opens, and convert's under which start a parcel does, the
 # machine code may branch on that, and on nothing else that is secret: under every set of secrets with
-# the same answer, cancel, total and convert use the same instructions and addresses, as valgrind's
-# lackey writes them down.
+# the same answers, such a call uses the same instructions and addresses, as valgrind's lackey writes them
+# down.
 #
 # usage: check-traces.sh [FOLDER]
 #
@@ -11,68 +11,63 @@ set -u
 
 root=$(cd "$(dirname "$0")/.." && pwd)
 folder=${1:-$root/dist}
-work=$(mktemp -d) || exit 2
-trap 'rm -rf "$work"' EXIT
-passed=0
-failed=0
+# shellcheck source=tools/lib.sh
+. "$root/tools/lib.sh"
+work_folder
 
-if ! command -v valgrind > /dev/null; then
-    echo "check-traces: valgrind is missing: install Debian's package valgrind" >&2
-    exit 2
-fi
-if [ ! -f "$folder/libcalmbaize.a" ]; then
-    echo "check-traces: $folder/libcalmbaize.a is missing: run make" >&2
-    exit 2
-fi
+command -v valgrind > /dev/null || cant_run "valgrind is missing: install Debian's package valgrind"
+files "$folder/libcalmbaize.a"
 # With -no-pie the trace has the file's addresses.
-"${CC:-cc}" -std=c99 -O1 -g -no-pie -Wall -Wextra -I "$root/include" -I "$root/c" "$root/tools/traces.c" \
-    "$root/c/baseline.c" "$folder/libcalmbaize.a" -o "$work/traces" || exit 2
-main=$(nm "$work/traces" | sed -n 's/^0*\([0-9a-f]*\) T main$/\1/p')
-[ -n "$main" ] || exit 2
+compile traces "$folder/libcalmbaize.a" -g -no-pie
+begin=$(nm "$work/traces" | sed -n 's/^0*\([0-9a-f]*\) T begin$/\1/p')
+[ -n "$begin" ] || exit 2
 
-# shellcheck source=tools/count.sh
-. "$root/tools/count.sh"
-
-# trace CALL STATE SET: the trace goes to the file trace, from the program's first instruction on: what
-# the loader does before depends on random bytes behind the environment. No trace is this short.
+# trace SET: the trace of each state goes to a file of the folder new, 1 and so on, and the answers to said.
+# What the loader does before the first depends on random bytes behind the environment. Behind the last there is more.
 trace() {
-    rm -f "$work/log"
-    valgrind --tool=lackey --trace-mem=yes --log-file="$work/log" "$work/traces" "$@" ||
-        [ -f "$work/log" ] || exit 2
-    sed -n "/^I  0*$main,/,\$ { /^==/!p }" "$work/log" > "$work/trace"
-    if [ "$(wc -l < "$work/trace")" -lt 10000 ]; then
-        echo "check-traces: valgrind writes no trace" >&2
-        exit 2
-    fi
-    grep -q '^==.* Exit code:  *0$' "$work/log"
+    rm -rf "$work/new"
+    mkdir "$work/new"
+    valgrind --tool=lackey --trace-mem=yes --log-fd=3 "$work/traces" "$1" 3>&1 > "$work/said" |
+        awk -v folder="$work/new/" '/^I  0*'"$begin"',/ { close(file); n++; file = folder n } n && !/^==/ { print > file }'
+    states=$(wc -l < "$work/said")
+    [ "$states" -gt 0 ] && [ -s "$work/new/$((states + 1))" ] || cant_run "valgrind writes no trace"
 }
 
-# Says in which function the trace leaves the first one.
+# say_where SET STATE: in which function the trace leaves the first one.
 say_where() {
     address=$(awk 'NR == FNR { first[NR] = $0; next }
         $0 != first[FNR] { print address; exit }
-        /^I/ { address = $2; sub(/,.*/, "", address) }' "$work/first" "$work/trace")
+        /^I/ { address = $2; sub(/,.*/, "", address) }' "$work/first/$2" "$work/new/$2")
     echo "  under set $1 the trace is another one from $(addr2line -f -e "$work/traces" "$address" | head -n 1) on"
 }
 
-# same_traces CALL STATE
+# same_traces SET: leaves a file for each state in which an answer is wrong or the trace not that of set 0.
 same_traces() {
-    trace "$1" "$2" 0 || return
-    mv "$work/trace" "$work/first"
-    for set in 1 2 3 4; do
-        trace "$1" "$2" "$set" || return
-        cmp -s "$work/first" "$work/trace" || { say_where "$set"; return 1; }
-    done
+    state=0
+    while read -r answers name; do
+        state=$((state + 1))
+        if [ "$answers" = wrong ]; then
+            echo "  under set $1 a wrong answer: $name"
+        elif ! cmp -s "$work/first/$state" "$work/new/$state"; then
+            say_where "$1" "$state"
+        else
+            continue
+        fi
+        : > "$work/differs.$state"
+    done < "$work/said"
 }
 
-for call in cancel total; do
-    for state in whole damaged; do
-        count "traces: $call, $state" same_traces "$call" "$state"
-    done
+trace 0
+mv "$work/new" "$work/first"
+ln -s first "$work/new"
+same_traces 0
+for set in 1 2 3 4; do
+    trace "$set"
+    same_traces "$set"
 done
-for state in old new damaged; do
-    count "traces: convert, $state" same_traces convert "$state"
-done
-
-echo "$passed passed, $failed failed"
-[ "$failed" -eq 0 ]
+state=0
+while read -r answers name; do
+    state=$((state + 1))
+    count "traces: $name" [ ! -e "$work/differs.$state" ]
+done < "$work/said"
+counted

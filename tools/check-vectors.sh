@@ -11,28 +11,18 @@ set -eu
 root=$(cd "$(dirname "$0")/.." && pwd)
 archive=${1:-$root/dist}/libcalmbaize.a
 registers=${2:-xmm}
-work=$(mktemp -d) || exit 2
-trap 'rm -rf "$work"' EXIT
-passed=0
-failed=0
+# shellcheck source=tools/lib.sh
+. "$root/tools/lib.sh"
+work_folder
 
-if [ ! -f "$archive" ]; then
-    echo "check-vectors: $archive is missing: run make" >&2
-    exit 2
-fi
+files "$archive"
 # A round of four blocks has 128 additions; an xmm register holds two words, a ymm register four.
 case $registers in
 xmm) least=64 prefix= ;;
 ymm) least=32 prefix=v ;;
-*)
-    echo "check-vectors: the registers are xmm or ymm, and not: $registers" >&2
-    exit 2
-    ;;
+*) cant_run "the registers are xmm or ymm, and not: $registers" ;;
 esac
-if ! objdump -dr --no-show-raw-insn "$archive" > "$work/code"; then
-    echo "check-vectors: objdump can't read $archive" >&2
-    exit 2
-fi
+objdump -dr --no-show-raw-insn "$archive" > "$work/code" || cant_run "objdump can't read $archive"
 
 # loops CALL INSTRUCTION: how many stretches without a jump have a round's worth of that instruction, in
 # the call and in the local functions that it reaches.
@@ -70,5 +60,4 @@ has calmbaize_seal_run paddq 3
 has calmbaize_open_run paddq 2
 has calmbaize_open_run psubq 1
 
-echo "$passed passed, $failed failed"
-[ "$failed" -eq 0 ]
+counted

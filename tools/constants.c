@@ -8,97 +8,14 @@
 #include <stdio.h>
 #include <string.h>
 
-#include "calmbaize.h"
-#include "settings.h"
+#include "calls.h"
 
 #define HOLD(name, truth) hold(#name, truth)
 #define REFUSE(name, answer) hold(#name, refused(answer, name))
 
-enum { BLOCK = CALMBAIZE_BLOCK_BYTES, TAG = CALMBAIZE_TAG_BYTES, CELL = CALMBAIZE_CELL_BYTES };
-/* The one machine's number. */
-enum { MACHINE = 7 };
-
-/* Each has room for one byte more than is allowed. */
-static uint8_t key[CALMBAIZE_KEY_BYTES + 1], nonce[CALMBAIZE_NONCE_BYTES + 1];
-static uint8_t header[CALMBAIZE_HEADER_BYTES_MAX + 1], message[CALMBAIZE_MESSAGE_BYTES_MAX + 1];
-static uint8_t parcel[CALMBAIZE_SEALED_BYTES_MAX + 1], output[CALMBAIZE_SEALED_BYTES_MAX + 1];
-static uint8_t start[BLOCK + 1], steps[CALMBAIZE_STEPS_MAX + 1];
-static uint8_t tail[CALMBAIZE_NONCE_TAIL_BYTES + 1], hour[CALMBAIZE_CLOCK_BYTES + 1];
-static uint8_t store[CALMBAIZE_STORE_BYTES_MAX + CELL];
-static uint64_t words[CALMBAIZE_RUN_WORDS_MAX + 1];
-
-/* The arguments, one of which gets another value than the usual one in each call below. */
-enum argument { MODE, ROUNDS, KEY, NONCE, HEADER, INPUT, OUTPUT, START, STEPS, ARGUMENTS };
-
 static void hold(const char *name, int truth)
 {
     printf("%s %s\n", truth ? "held" : "failed", name);
-}
-
-typedef uint64_t call(enum argument other, size_t value);
-
-/* Of an empty message, into the parcel. */
-static uint64_t seal(enum argument other, size_t value)
-{
-    size_t a[ARGUMENTS] = {[MODE] = CALMBAIZE_MODE_OPP,
-                           [ROUNDS] = round_counts[0],
-                           [KEY] = CALMBAIZE_KEY_BYTES,
-                           [NONCE] = CALMBAIZE_NONCE_BYTES,
-                           [OUTPUT] = sizeof parcel};
-
-    a[other] = value;
-    return calmbaize_seal((uint32_t)a[MODE], (uint32_t)a[ROUNDS], key, a[KEY], nonce, a[NONCE],
-                          header, a[HEADER], message, a[INPUT], parcel, a[OUTPUT]);
-}
-
-/* Of the parcel. */
-static uint64_t open(enum argument other, size_t value)
-{
-    size_t a[ARGUMENTS] = {[INPUT] = TAG, [OUTPUT] = sizeof output};
-
-    a[other] = value;
-    return calmbaize_open(CALMBAIZE_MODE_OPP, round_counts[0], key, CALMBAIZE_KEY_BYTES, nonce,
-                          CALMBAIZE_NONCE_BYTES, header, 0, parcel, a[INPUT], output, a[OUTPUT]);
-}
-
-/* Of the parcel. */
-static uint64_t convert(enum argument other, size_t value)
-{
-    size_t a[ARGUMENTS] = {[INPUT] = TAG, [OUTPUT] = sizeof output};
-
-    a[other] = value;
-    return calmbaize_convert(CALMBAIZE_MODE_OPP, round_counts[0], key, CALMBAIZE_KEY_BYTES, nonce,
-                             CALMBAIZE_NONCE_BYTES, header, 0, parcel, a[INPUT], output, a[OUTPUT]);
-}
-
-/* Into the parcel, with so many words. */
-static uint64_t seal_run(size_t header_len, size_t len, size_t count)
-{
-    return calmbaize_seal_run(CALMBAIZE_MODE_OPP, round_counts[0], key, CALMBAIZE_KEY_BYTES, nonce,
-                              CALMBAIZE_NONCE_BYTES, header, header_len, message, len, parcel,
-                              sizeof parcel, words, count);
-}
-
-/* Of the parcel, with so many words. */
-static uint64_t open_run(size_t header_len, size_t len, size_t count)
-{
-    return calmbaize_open_run(CALMBAIZE_MODE_OPP, round_counts[0], key, CALMBAIZE_KEY_BYTES, nonce,
-                              CALMBAIZE_NONCE_BYTES, header, header_len, parcel, len + TAG, output,
-                              sizeof output, words, count);
-}
-
-/* Of no steps. */
-static uint64_t walk(enum argument other, size_t value)
-{
-    size_t a[ARGUMENTS] = {[START] = BLOCK, [OUTPUT] = sizeof output};
-
-    a[other] = value;
-    return calmbaize_walk(start, a[START], steps, a[STEPS], output, a[OUTPUT]);
-}
-
-static uint64_t jump(int32_t alpha, int32_t beta, int32_t gamma)
-{
-    return calmbaize_jump(start, BLOCK, alpha, beta, gamma, output, sizeof output);
 }
 
 static int refused(uint64_t answer, uint32_t number)
@@ -117,44 +34,78 @@ static int passes(uint64_t answer)
     return calmbaize_refusal(answer) == CALMBAIZE_OK;
 }
 
-/* The length passes, and one more is refused with the number. */
-static int most(call *call, enum argument argument, size_t len, uint32_t number)
+static uint64_t make(const char *call)
 {
-    return passes(call(argument, len)) && refused(call(argument, len + 1), number);
+    return find(call)->make();
+}
+
+/* The call with sound arguments but for this one. */
+static uint64_t with(const char *call, size_t *argument, size_t value)
+{
+    usual();
+    *argument = value;
+    return make(call);
+}
+
+/* The length passes, and one more is refused with the number. */
+static int most(const char *call, size_t *argument, size_t len, uint32_t number)
+{
+    return passes(with(call, argument, len)) && refused(with(call, argument, len + 1), number);
 }
 
 /* One less is refused too. */
-static int just(call *call, enum argument argument, size_t len, uint32_t number)
+static int just(const char *call, size_t *argument, size_t len, uint32_t number)
 {
-    return most(call, argument, len, number) && refused(call(argument, len - 1), number);
+    return most(call, argument, len, number) && refused(with(call, argument, len - 1), number);
+}
+
+/* Seals a message of that length, by the call of that name, into the parcel. */
+static uint64_t seal_parcel(const char *call, size_t len)
+{
+    uint64_t answer;
+
+    now.message_len = len;
+    answer = make(call);
+    memcpy(secrets.parcel, output, calmbaize_written(answer));
+    return answer;
 }
 
 static void lengths(void)
 {
-    HOLD(CALMBAIZE_KEY_BYTES, just(seal, KEY, CALMBAIZE_KEY_BYTES, CALMBAIZE_REFUSED_KEY_LENGTH));
+    usual();
+    HOLD(CALMBAIZE_TAG_BYTES, wrote(seal_parcel("seal", 0), CALMBAIZE_TAG_BYTES));
+    HOLD(CALMBAIZE_KEY_BYTES,
+         just("seal", &now.key_len, CALMBAIZE_KEY_BYTES, CALMBAIZE_REFUSED_KEY_LENGTH));
     HOLD(CALMBAIZE_NONCE_BYTES,
-         just(seal, NONCE, CALMBAIZE_NONCE_BYTES, CALMBAIZE_REFUSED_NONCE_LENGTH));
-    HOLD(CALMBAIZE_TAG_BYTES, wrote(seal(INPUT, 0), CALMBAIZE_TAG_BYTES));
+         just("seal", &now.nonce_len, CALMBAIZE_NONCE_BYTES, CALMBAIZE_REFUSED_NONCE_LENGTH));
     HOLD(CALMBAIZE_BLOCK_BYTES,
-         just(walk, START, CALMBAIZE_BLOCK_BYTES, CALMBAIZE_REFUSED_START_LENGTH) &&
-             wrote(walk(STEPS, 0), CALMBAIZE_BLOCK_BYTES));
-    HOLD(CALMBAIZE_HEADER_BYTES_MAX,
-         most(seal, HEADER, CALMBAIZE_HEADER_BYTES_MAX, CALMBAIZE_REFUSED_HEADER_TOO_LONG));
-    HOLD(CALMBAIZE_MESSAGE_BYTES_MAX,
-         most(seal, INPUT, CALMBAIZE_MESSAGE_BYTES_MAX, CALMBAIZE_REFUSED_INPUT_TOO_LONG));
+         just("walk", &now.start_len, CALMBAIZE_BLOCK_BYTES, CALMBAIZE_REFUSED_START_LENGTH) &&
+             wrote(with("walk", &now.steps_len, 0), CALMBAIZE_BLOCK_BYTES));
+    HOLD(CALMBAIZE_HEADER_BYTES_MAX, most("seal", &now.header_len, CALMBAIZE_HEADER_BYTES_MAX,
+                                          CALMBAIZE_REFUSED_HEADER_TOO_LONG));
+    HOLD(CALMBAIZE_MESSAGE_BYTES_MAX, most("seal", &now.message_len, CALMBAIZE_MESSAGE_BYTES_MAX,
+                                           CALMBAIZE_REFUSED_INPUT_TOO_LONG));
+    usual();
     HOLD(CALMBAIZE_SEALED_BYTES_MAX,
-         wrote(seal(INPUT, CALMBAIZE_MESSAGE_BYTES_MAX), CALMBAIZE_SEALED_BYTES_MAX) &&
-             most(open, INPUT, CALMBAIZE_SEALED_BYTES_MAX, CALMBAIZE_REFUSED_INPUT_TOO_LONG));
+         wrote(seal_parcel("seal", CALMBAIZE_MESSAGE_BYTES_MAX), CALMBAIZE_SEALED_BYTES_MAX) &&
+             most("open", &now.parcel_len, CALMBAIZE_SEALED_BYTES_MAX,
+                  CALMBAIZE_REFUSED_INPUT_TOO_LONG));
 }
 
 /* So many words are enough for both calls, and one less is refused. */
 static int words_needed(size_t header_len, size_t len, size_t count)
 {
-    return calmbaize_run_words(header_len, len) == count &&
-           wrote(seal_run(header_len, len, count), len + TAG) &&
-           wrote(open_run(header_len, len, count), len) &&
-           refused(seal_run(header_len, len, count - 1), CALMBAIZE_REFUSED_OUTPUT_TOO_SHORT) &&
-           refused(open_run(header_len, len, count - 1), CALMBAIZE_REFUSED_OUTPUT_TOO_SHORT);
+    int enough;
+
+    usual();
+    now.header_len = header_len;
+    now.words_len = count;
+    now.parcel_len = len + TAG;
+    enough = calmbaize_run_words(header_len, len) == count &&
+             wrote(seal_parcel("seal_run", len), len + TAG) && wrote(make("open_run"), len);
+    now.words_len--;
+    return enough && refused(make("seal_run"), CALMBAIZE_REFUSED_OUTPUT_TOO_SHORT) &&
+           refused(make("open_run"), CALMBAIZE_REFUSED_OUTPUT_TOO_SHORT);
 }
 
 /* The longest message has the longest run; the longest header has a shorter one. */
@@ -172,37 +123,28 @@ static void lengths_of_runs(void)
 /* A store of so many cells in which all are free. */
 static int formatted(size_t cells)
 {
-    return passes(calmbaize_store_format(store, cells * CELL));
+    return passes(with("store_format", &now.store_len, cells * CELL));
 }
 
-static uint64_t take(size_t cells, uint32_t sale, uint32_t amount, uint8_t means)
+/* In the store that was formatted last. */
+static uint64_t of_sale(const char *call, size_t sale)
 {
-    return calmbaize_store_take(key, CALMBAIZE_KEY_BYTES, store, cells * CELL, MACHINE, sale, tail,
-                                amount, 0, means, hour);
+    now.sale = sale;
+    return make(call);
 }
 
-static uint64_t cancel(size_t cells, uint32_t sale)
+static int is_length(size_t len)
 {
-    return calmbaize_store_cancel(key, CALMBAIZE_KEY_BYTES, store, cells * CELL, MACHINE, sale);
-}
-
-static uint64_t read(size_t cells, uint32_t sale)
-{
-    return calmbaize_store_read(store, cells * CELL, MACHINE, sale);
+    return passes(with("store_format", &now.store_len, len));
 }
 
 /* No length of a store stands between these two. */
 static int no_length_between(size_t from, size_t to)
 {
     for (size_t len = from + 1; len < to; len++)
-        if (!refused(calmbaize_store_format(store, len), CALMBAIZE_REFUSED_STORE_FORM))
+        if (!refused(with("store_format", &now.store_len, len), CALMBAIZE_REFUSED_STORE_FORM))
             return 0;
     return 1;
-}
-
-static int is_length(size_t len)
-{
-    return passes(calmbaize_store_format(store, len));
 }
 
 /* The part of the second sale begins with its numbers and ends with its cell. */
@@ -211,10 +153,10 @@ static int sale_part(void)
     const uint8_t numbers[] = {MACHINE, 0, 0, 0, 5, 0, 0, 0};
     uint32_t cell, offset;
 
-    if (!formatted(4) || !passes(take(4, 4, 0, 0)))
+    if (!formatted(4) || !passes(of_sale("store_take", 4)))
         return 0;
-    cell = calmbaize_value(take(4, 5, 0, 0));
-    offset = calmbaize_value(read(4, 5));
+    cell = calmbaize_value(of_sale("store_take", 5));
+    offset = calmbaize_value(of_sale("store_read", 5));
     return offset + CALMBAIZE_SALE_BYTES == (cell + 1) * CELL &&
            memcmp(store + offset, numbers, sizeof numbers) == 0;
 }
@@ -227,7 +169,7 @@ static int reads_just(uint8_t *buffer, size_t len)
     for (int i = 0; i < 3; i++) {
         buffer[len - 1] ^= i == 1;
         buffer[len] ^= i == 2;
-        if (!formatted(2) || !passes(take(2, 1, 0, 0)))
+        if (!formatted(2) || !passes(of_sale("store_take", 1)))
             return 0;
         memcpy(taken[i], store, sizeof taken[i]);
     }
@@ -247,25 +189,34 @@ static void store_lengths(void)
              no_length_between(CALMBAIZE_STORE_BYTES_MAX, CALMBAIZE_STORE_BYTES_MAX + CELL + 1));
     HOLD(CALMBAIZE_SALE_BYTES, sale_part());
     HOLD(CALMBAIZE_NONCE_TAIL_BYTES, reads_just(tail, CALMBAIZE_NONCE_TAIL_BYTES));
-    HOLD(CALMBAIZE_CLOCK_BYTES, reads_just(hour, CALMBAIZE_CLOCK_BYTES));
+    HOLD(CALMBAIZE_CLOCK_BYTES, reads_just(secrets.records[1].clock, CALMBAIZE_CLOCK_BYTES));
 }
 
-/* What a total makes of one sale of that means. */
-static uint64_t total_of(uint8_t means, uint32_t amount)
+/* A total of one sale of that means comes to the coins. */
+static int total_is(uint8_t means, uint32_t amount, uint64_t coins)
 {
-    uint64_t total = UINT64_MAX;
-
-    if (!formatted(2) || !passes(take(2, 1, amount, means)) ||
-        !passes(calmbaize_store_total(key, CALMBAIZE_KEY_BYTES, store, 2 * CELL, &total)))
-        return UINT64_MAX;
-    return total;
+    secrets.records[1].means = means;
+    secrets.records[1].amount = amount;
+    if (!formatted(2) || !passes(of_sale("store_take", 1)))
+        return 0;
+    now.total = coins;
+    return make("store_total") == 0;
 }
 
 static void means_of_payment(void)
 {
-    HOLD(CALMBAIZE_MEANS_COIN, total_of(CALMBAIZE_MEANS_COIN, 150) == 150);
+    HOLD(CALMBAIZE_MEANS_COIN, total_is(CALMBAIZE_MEANS_COIN, 150, 150));
     /* The archive tells it from no other means that is not coin. */
-    HOLD(CALMBAIZE_MEANS_CARD, total_of(CALMBAIZE_MEANS_CARD, 150) == 0 && CALMBAIZE_MEANS_CARD == 2);
+    HOLD(CALMBAIZE_MEANS_CARD, total_is(CALMBAIZE_MEANS_CARD, 150, 0) && CALMBAIZE_MEANS_CARD == 2);
+}
+
+static uint64_t jump(int32_t alpha, int32_t beta, int32_t gamma)
+{
+    usual();
+    now.alpha = alpha;
+    now.beta = beta;
+    now.gamma = gamma;
+    return make("jump");
 }
 
 static int count_refused(int32_t count)
@@ -279,9 +230,8 @@ static void bounds_of_steps(void)
 {
     const int32_t most_steps = CALMBAIZE_COUNT_MAX;
 
-    memset(steps, CALMBAIZE_STEP_ALPHA, sizeof steps);
-    HOLD(CALMBAIZE_STEPS_MAX,
-         most(walk, STEPS, CALMBAIZE_STEPS_MAX, CALMBAIZE_REFUSED_TOO_MANY_STEPS));
+    HOLD(CALMBAIZE_STEPS_MAX, most("walk", &now.steps_len, CALMBAIZE_STEPS_MAX,
+                                   CALMBAIZE_REFUSED_TOO_MANY_STEPS));
     HOLD(CALMBAIZE_COUNT_MAX, passes(jump(most_steps, most_steps, most_steps)) &&
                                   passes(jump(-most_steps, -most_steps, -most_steps)) &&
                                   count_refused(most_steps + 1) && count_refused(-most_steps - 1));
@@ -290,16 +240,18 @@ static void bounds_of_steps(void)
 /* Two messages that differ in their last byte: OPP's first blocks are alike, MRO's are not. */
 static int first_blocks_alike(uint32_t mode)
 {
-    uint8_t sealed[2][2 * BLOCK + TAG];
+    uint8_t first[BLOCK];
 
+    usual();
+    now.mode = mode;
+    now.message_len = 2 * BLOCK;
     for (int i = 0; i < 2; i++) {
-        message[2 * BLOCK - 1] ^= 1;
-        if (!passes(calmbaize_seal(mode, round_counts[0], key, CALMBAIZE_KEY_BYTES, nonce,
-                                   CALMBAIZE_NONCE_BYTES, header, 0, message, 2 * BLOCK, sealed[i],
-                                   sizeof sealed[i])))
+        memcpy(first, output, BLOCK);
+        secrets.message[2 * BLOCK - 1] ^= 1;
+        if (!passes(make("seal")))
             return -1;
     }
-    return memcmp(sealed[0], sealed[1], BLOCK) == 0;
+    return memcmp(first, output, BLOCK) == 0;
 }
 
 /* A walk of the one step goes where the jump goes. */
@@ -307,8 +259,11 @@ static int steps_to(uint8_t step, int32_t alpha, int32_t beta, int32_t gamma)
 {
     uint8_t reached[BLOCK];
 
-    return passes(calmbaize_walk(start, BLOCK, &step, 1, reached, sizeof reached)) &&
-           passes(jump(alpha, beta, gamma)) && memcmp(reached, output, BLOCK) == 0;
+    steps[0] = step;
+    if (!passes(with("walk", &now.steps_len, 1)))
+        return 0;
+    memcpy(reached, output, BLOCK);
+    return passes(jump(alpha, beta, gamma)) && memcmp(reached, output, BLOCK) == 0;
 }
 
 static void modes_and_steps(void)
@@ -323,29 +278,24 @@ static void modes_and_steps(void)
     HOLD(CALMBAIZE_STEP_GAMMA_BACK, steps_to(CALMBAIZE_STEP_GAMMA_BACK, 0, 0, -1));
 }
 
-/* An empty message's parcel with one bit changed. */
-static uint64_t open_damaged(void)
+/* What the call answers to an empty message's parcel, with these bits of its last byte changed. */
+static uint64_t of_parcel(const char *call, uint8_t changed)
 {
-    if (!wrote(seal(INPUT, 0), TAG))
-        return 0;
-    parcel[TAG - 1] ^= 1;
-    return open(INPUT, TAG);
-}
-
-/* An empty message's parcel, which seal makes of this format. */
-static uint64_t convert_sealed(void)
-{
-    return wrote(seal(INPUT, 0), TAG) ? convert(INPUT, TAG) : 0;
+    usual();
+    if (!wrote(seal_parcel("seal", 0), TAG))
+        return UINT64_MAX;
+    secrets.parcel[TAG - 1] ^= changed;
+    return make(call);
 }
 
 /* A walk's refusal has the step's place. */
 static int step_refused_at(size_t place)
 {
-    uint8_t list[] = {1, 1, 1, 1};
     uint64_t answer;
 
-    list[place] = 0;
-    answer = calmbaize_walk(start, BLOCK, list, sizeof list, output, sizeof output);
+    memset(steps, CALMBAIZE_STEP_ALPHA, sizeof steps);
+    steps[place] = 0;
+    answer = with("walk", &now.steps_len, 4);
     return calmbaize_refusal(answer) == CALMBAIZE_REFUSED_STEP && calmbaize_place(answer) == place &&
            calmbaize_written(answer) == 0;
 }
@@ -353,67 +303,60 @@ static int step_refused_at(size_t place)
 /* A tag's refusal has a place where the tag is a sale's. */
 static int sale_refused_in(size_t cell)
 {
-    uint64_t total = 1, cancelled, added;
+    uint64_t cancelled;
 
-    if (!formatted(4) || calmbaize_value(take(4, 1, 0, 0)) != 1 ||
-        calmbaize_value(take(4, 2, 0, 0)) != 2)
+    if (!formatted(4) || calmbaize_value(of_sale("store_take", 1)) != 1 ||
+        calmbaize_value(of_sale("store_take", 2)) != 2)
         return 0;
     store[(cell + 1) * CELL - 1] ^= 1;
-    cancelled = cancel(4, (uint32_t)cell);
-    added = calmbaize_store_total(key, CALMBAIZE_KEY_BYTES, store, 4 * CELL, &total);
+    cancelled = of_sale("store_cancel", cell);
     return calmbaize_refusal(cancelled) == CALMBAIZE_REFUSED_TAG &&
-           calmbaize_place(cancelled) == cell && added == cancelled && total == 1;
+           calmbaize_place(cancelled) == cell && make("store_total") == cancelled;
 }
 
-/* The second sale in a store of one. */
-static uint64_t take_into_full(void)
+/* What the call answers to that sale, in a store of so many cells where the first is taken. */
+static uint64_t after_one(size_t cells, const char *call, size_t sale)
 {
-    return formatted(2) && passes(take(2, 1, 0, 0)) ? take(2, 2, 0, 0) : 0;
-}
-
-/* The same sale again. */
-static uint64_t take_twice(void)
-{
-    return formatted(3) && passes(take(3, 1, 0, 0)) ? take(3, 1, 0, 0) : 0;
+    return formatted(cells) && passes(of_sale("store_take", 1)) ? of_sale(call, sale) : UINT64_MAX;
 }
 
 static void refusals_of_lengths_and_settings(void)
 {
-    HOLD(CALMBAIZE_OK, wrote(seal(INPUT, 0), TAG) && wrote(open(INPUT, TAG), 0));
-    REFUSE(CALMBAIZE_REFUSED_MODE, seal(MODE, 0));
-    REFUSE(CALMBAIZE_REFUSED_ROUNDS, seal(ROUNDS, 0));
-    REFUSE(CALMBAIZE_REFUSED_KEY_LENGTH, seal(KEY, 0));
-    REFUSE(CALMBAIZE_REFUSED_NONCE_LENGTH, seal(NONCE, 0));
-    REFUSE(CALMBAIZE_REFUSED_HEADER_TOO_LONG, seal(HEADER, sizeof header));
-    REFUSE(CALMBAIZE_REFUSED_INPUT_TOO_LONG, seal(INPUT, sizeof message));
-    REFUSE(CALMBAIZE_REFUSED_OUTPUT_TOO_SHORT, seal(OUTPUT, TAG - 1));
-    REFUSE(CALMBAIZE_REFUSED_OUTPUT_TOO_SHORT, convert(OUTPUT, TAG - 1));
-    REFUSE(CALMBAIZE_REFUSED_OUTPUT_TOO_SHORT, seal_run(0, 0, 0));
-    REFUSE(CALMBAIZE_REFUSED_INPUT_TOO_SHORT, open(INPUT, TAG - 1));
-    REFUSE(CALMBAIZE_REFUSED_INPUT_TOO_SHORT, convert(INPUT, TAG - 1));
-    REFUSE(CALMBAIZE_REFUSED_START_LENGTH, walk(START, 0));
+    HOLD(CALMBAIZE_OK, wrote(of_parcel("seal", 0), TAG) && wrote(of_parcel("open", 0), 0));
+    REFUSE(CALMBAIZE_REFUSED_MODE, with("seal", &now.mode, 0));
+    REFUSE(CALMBAIZE_REFUSED_ROUNDS, with("seal", &now.rounds, 0));
+    REFUSE(CALMBAIZE_REFUSED_KEY_LENGTH, with("seal", &now.key_len, 0));
+    REFUSE(CALMBAIZE_REFUSED_NONCE_LENGTH, with("seal", &now.nonce_len, 0));
+    REFUSE(CALMBAIZE_REFUSED_HEADER_TOO_LONG, with("seal", &now.header_len, sizeof header));
+    REFUSE(CALMBAIZE_REFUSED_INPUT_TOO_LONG, with("seal", &now.message_len, sizeof secrets.message));
+    REFUSE(CALMBAIZE_REFUSED_OUTPUT_TOO_SHORT, with("seal", &now.output_len, TAG - 1));
+    REFUSE(CALMBAIZE_REFUSED_OUTPUT_TOO_SHORT, with("convert", &now.output_len, TAG - 1));
+    REFUSE(CALMBAIZE_REFUSED_OUTPUT_TOO_SHORT, with("seal_run", &now.words_len, 0));
+    REFUSE(CALMBAIZE_REFUSED_INPUT_TOO_SHORT, with("open", &now.parcel_len, TAG - 1));
+    REFUSE(CALMBAIZE_REFUSED_INPUT_TOO_SHORT, with("convert", &now.parcel_len, TAG - 1));
+    REFUSE(CALMBAIZE_REFUSED_START_LENGTH, with("walk", &now.start_len, 0));
     REFUSE(CALMBAIZE_REFUSED_COUNT, jump(0, 0, INT32_MIN));
-    REFUSE(CALMBAIZE_REFUSED_TOO_MANY_STEPS, walk(STEPS, sizeof steps));
+    REFUSE(CALMBAIZE_REFUSED_TOO_MANY_STEPS, with("walk", &now.steps_len, sizeof steps));
 }
 
 static void other_refusals(void)
 {
-    REFUSE(CALMBAIZE_REFUSED_TAG, open_damaged());
+    REFUSE(CALMBAIZE_REFUSED_TAG, of_parcel("open", 1));
     HOLD(CALMBAIZE_REFUSED_TAG, sale_refused_in(1) && sale_refused_in(2));
     HOLD(CALMBAIZE_REFUSED_STEP, step_refused_at(0) && step_refused_at(3));
-    REFUSE(CALMBAIZE_REFUSED_STORE_FORM, calmbaize_store_format(store, 0));
-    REFUSE(CALMBAIZE_REFUSED_STORE_FULL, take_into_full());
-    REFUSE(CALMBAIZE_REFUSED_SALE_NUMBERS, take_twice());
-    REFUSE(CALMBAIZE_REFUSED_SALE_NUMBERS, cancel(3, 2));
-    REFUSE(CALMBAIZE_REFUSED_SALE_NUMBERS, read(3, 2));
-    REFUSE(CALMBAIZE_REFUSED_DONE_ALREADY, convert_sealed());
+    REFUSE(CALMBAIZE_REFUSED_STORE_FORM, with("store_format", &now.store_len, 0));
+    REFUSE(CALMBAIZE_REFUSED_STORE_FULL, after_one(2, "store_take", 2));
+    REFUSE(CALMBAIZE_REFUSED_SALE_NUMBERS, after_one(3, "store_take", 1));
+    REFUSE(CALMBAIZE_REFUSED_SALE_NUMBERS, after_one(3, "store_cancel", 2));
+    REFUSE(CALMBAIZE_REFUSED_SALE_NUMBERS, after_one(3, "store_read", 2));
+    REFUSE(CALMBAIZE_REFUSED_DONE_ALREADY, of_parcel("convert", 0));
 }
 
 int main(void)
 {
-    /* Any block that the six steps take to six others. */
-    for (size_t i = 0; i < sizeof start; i++)
-        start[i] = (uint8_t)(i * i + 1);
+    /* Among them a start that the six steps take to six others. */
+    fill(2, sizeof secrets.message);
+    memset(steps, CALMBAIZE_STEP_ALPHA, sizeof steps);
     lengths();
     lengths_of_runs();
     store_lengths();

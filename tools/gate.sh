@@ -4,6 +4,7 @@
 # usage: gate.sh
 set -u
 cd "$(dirname "$0")/.." || exit 2
+. tools/lib.sh
 
 began=$(date +%s)
 work=$(mktemp -d) || exit 2
@@ -15,7 +16,7 @@ trap '[ -z "$beside" ] || kill -- "-$beside" 2> /dev/null; rm -rf "$work"' EXIT
 export STAMPED=yes
 
 stamped() {
-    STAMPED='' tools/stamped.sh "$began"
+    STAMPED='' with_time "$began"
 }
 
 # part NAME COMMAND...: runs it and keeps the counts that it prints, in the prover's form and cargo's.
@@ -93,7 +94,7 @@ machine_code() {
 
 # The archive for x86-64-v3 and the other one, side by side.
 both_archives() {
-    if tools/avx2.sh; then
+    if avx2; then
         begin_beside machine_code x86-64-v3 dist/x86-64-v3
     else
         echo "x86-64-v3: not run, since this processor has no AVX2" | stamped
@@ -105,7 +106,7 @@ both_archives() {
     [ -z "$beside" ] || end_beside
 }
 
-tools/need.sh rt '' && make --no-print-directory tools || exit 2
+need rt '' && make --no-print-directory tools || exit 2
 part "layout" tools/check-layout.sh
 part "the round as printed" tools/check-printed.sh
 part "proofs, must-fail edits and programs" tools/prove.sh ci

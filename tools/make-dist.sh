@@ -12,7 +12,8 @@ root=$(cd "$(dirname "$0")/.." && pwd)
 archive=$1
 wide=$2
 folder=${3:-$root/dist}
-version=$("$root/tools/version.sh")
+# shellcheck source=tools/lib.sh
+. "$root/tools/lib.sh"
 work=$(mktemp -d)
 trap 'rm -rf "$work"' EXIT
 
@@ -32,7 +33,7 @@ includedir=$1
 
 Name: calmbaize
 Description: Authenticated encryption with OPP and MRO over a masked BLAKE2b permutation
-Version: $version
+Version: $(version)
 Libs: -L\${libdir} -lcalmbaize
 Cflags: -I\${includedir}
 END

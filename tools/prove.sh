@@ -9,8 +9,9 @@
 # RT_JOBS says how many checks run at a time; six for each core if it is not set.
 set -u
 
-tools=$(dirname "$0")
-"$tools/need.sh" rt '' || exit 2
+# shellcheck source=tools/lib.sh
+. "$(dirname "$0")/lib.sh"
+need rt '' || exit 2
 # rt starts so many checks, and the next ones when all of them have ended: with one for each core some
 # cores wait for the slowest. A check takes up to 1 GB.
 if [ -z "${RT_JOBS:-}" ]; then
@@ -29,7 +30,7 @@ trap 'rm -rf "$work"' EXIT
     echo $? > "$work/status"
 } | tee "$work/log" |
     sed -uE '/^(library|logic[ =]|crate |(\/[^ ]*: )?note:|fn |enum |struct )|\(unchanged since it was last proved\)$/d' |
-    "$tools/stamped.sh"
+    with_time
 status=$(cat "$work/status")
 if [ "$status" -ne 0 ]; then
     echo "all that 'rt $*' said:"
