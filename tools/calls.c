@@ -1,4 +1,7 @@
-/* The calls of calmbaize.h, with what they take and must answer. */
+/*
+ * Each call of calmbaize.h: what makes it, what it must answer, and where that tells something secret, how
+ * many branches it allows. Behind those that take the same stand the settings and states that are tried.
+ */
 #include "calls.h"
 
 #include <string.h>
@@ -18,8 +21,7 @@ unsigned verdict;
 static uint8_t sealed[2][CALMBAIZE_SEALED_BYTES_MAX], kept[CALMBAIZE_STORE_BYTES_MAX + CELL];
 static size_t kept_len, kept_sales;
 
-/* The calls. */
-
+/* Arguments that stand together. */
 #define KEY secrets.key, now.key_len
 #define NONCE secrets.nonce, now.nonce_len
 #define HEADER header, now.header_len
@@ -31,184 +33,6 @@ static size_t kept_len, kept_sales;
 #define WORDS secrets.words, now.words_len
 #define STORE store, now.store_len
 #define SALE MACHINE, (uint32_t)now.sale
-
-static uint64_t seal(void)
-{
-    return calmbaize_seal(SETTINGS, MESSAGE, OUTPUT);
-}
-
-static uint64_t open(void)
-{
-    return calmbaize_open(SETTINGS, PARCEL, OUTPUT);
-}
-
-static uint64_t open_old(void)
-{
-    return calmbaize_open_old(SETTINGS, PARCEL, OUTPUT);
-}
-
-static uint64_t convert(void)
-{
-    return calmbaize_convert(SETTINGS, PARCEL, OUTPUT);
-}
-
-static uint64_t seal_run(void)
-{
-    return calmbaize_seal_run(SETTINGS, MESSAGE, OUTPUT, WORDS);
-}
-
-static uint64_t open_run(void)
-{
-    return calmbaize_open_run(SETTINGS, PARCEL, OUTPUT, WORDS);
-}
-
-static uint64_t walk(void)
-{
-    return calmbaize_walk(START, steps + now.first_step, now.steps_len, OUTPUT);
-}
-
-static uint64_t jump(void)
-{
-    return calmbaize_jump(START, now.alpha, now.beta, now.gamma, OUTPUT);
-}
-
-static uint64_t store_format(void)
-{
-    return calmbaize_store_format(STORE);
-}
-
-static struct record *record_of(size_t sale)
-{
-    return &secrets.records[sale % RECORDS];
-}
-
-static uint64_t store_take(void)
-{
-    const struct record *record = record_of(now.sale);
-
-    return calmbaize_store_take(KEY, STORE, SALE, tail, record->amount, record->column,
-                                record->means, record->clock);
-}
-
-static uint64_t store_cancel(void)
-{
-    return calmbaize_store_cancel(KEY, STORE, SALE);
-}
-
-/* A wrong total is a wrong answer. */
-static uint64_t store_total(void)
-{
-    uint64_t total = UINT64_MAX, answer = calmbaize_store_total(KEY, STORE, &total);
-
-    return answer ^ total ^ now.total;
-}
-
-static uint64_t store_read(void)
-{
-    return calmbaize_store_read(STORE, SALE);
-}
-
-/* What they must answer, and how many branches on secrets that tells. */
-
-static uint64_t refused(uint32_t number, size_t place)
-{
-    return (uint64_t)number << 32 | place;
-}
-
-static uint64_t sealed_len(void)
-{
-    return now.message_len + TAG;
-}
-
-static uint64_t block_len(void)
-{
-    return BLOCK;
-}
-
-/* Of a parcel: of the new start, of the old, or damaged. */
-static uint64_t by_start(uint64_t under_new, uint64_t under_old)
-{
-    if (now.changed)
-        return refused(CALMBAIZE_REFUSED_TAG, 0);
-    return now.old ? under_old : under_new;
-}
-
-static uint64_t opened(void)
-{
-    return by_start(now.message_len, refused(CALMBAIZE_REFUSED_TAG, 0));
-}
-
-static uint64_t opened_old(void)
-{
-    return by_start(refused(CALMBAIZE_REFUSED_TAG, 0), now.message_len);
-}
-
-static unsigned one_verdict(void)
-{
-    return verdict;
-}
-
-static uint64_t converted(void)
-{
-    return by_start(refused(CALMBAIZE_REFUSED_DONE_ALREADY, 0), now.parcel_len);
-}
-
-/* It tries the new start where the old one fails. */
-static unsigned starts_tried(void)
-{
-    return now.changed || !now.old ? 2 : 1;
-}
-
-static uint64_t nothing(void)
-{
-    return 0;
-}
-
-static uint64_t taken(void)
-{
-    if (now.sale <= now.sales)
-        return refused(CALMBAIZE_REFUSED_SALE_NUMBERS, 0);
-    return now.sales + 1 < now.store_len / CELL ? now.sale
-                                                : refused(CALMBAIZE_REFUSED_STORE_FULL, 0);
-}
-
-/* Of a sale that is named: there and whole, or damaged. */
-static uint64_t by_sale(uint64_t whole, uint64_t damaged)
-{
-    if (now.sale > now.sales)
-        return refused(CALMBAIZE_REFUSED_SALE_NUMBERS, 0);
-    return now.changed ? damaged : whole;
-}
-
-static uint64_t cancelled(void)
-{
-    return by_sale(record_of(now.sale)->amount, refused(CALMBAIZE_REFUSED_TAG, now.sale));
-}
-
-static unsigned sale_opened(void)
-{
-    return now.sale <= now.sales;
-}
-
-static uint64_t added_up(void)
-{
-    return now.changed ? refused(CALMBAIZE_REFUSED_TAG, now.sale) : 0;
-}
-
-/* The last sale taken is the first in the chain. */
-static unsigned sales_opened(void)
-{
-    return (unsigned)(now.changed ? now.sales - now.sale + 1 : now.sales);
-}
-
-static uint64_t found(void)
-{
-    uint64_t offset = CELL * now.sale + 3;
-
-    return by_sale(offset, offset);
-}
-
-/* What they take. */
 
 void usual(void)
 {
@@ -237,6 +61,96 @@ void fill(unsigned set, size_t message_len)
     }
     for (size_t i = 0; i < RECORDS; i++)
         secrets.records[i].means = (uint8_t)((i + set) % 4);
+}
+
+static uint64_t refused(uint32_t number, size_t place)
+{
+    return (uint64_t)number << 32 | place;
+}
+
+/* The traces allow no branch on the place. */
+static void damage(uint8_t *bytes)
+{
+    for (size_t i = 0; i < now.sealed_len; i++)
+        bytes[i] ^= (uint8_t)(now.changed & -(i == now.place));
+}
+
+/* Of calls that take nothing sealed. */
+static void unsealed(void)
+{
+}
+
+static const char *const starts[] = {"new start", "old start"}, *const whole[] = {"whole"};
+
+/* Messages and parcels. */
+
+static uint64_t seal(void)
+{
+    return calmbaize_seal(SETTINGS, MESSAGE, OUTPUT);
+}
+
+static uint64_t seal_run(void)
+{
+    return calmbaize_seal_run(SETTINGS, MESSAGE, OUTPUT, WORDS);
+}
+
+static uint64_t sealed_len(void)
+{
+    return now.message_len + TAG;
+}
+
+static uint64_t open(void)
+{
+    return calmbaize_open(SETTINGS, PARCEL, OUTPUT);
+}
+
+static uint64_t open_run(void)
+{
+    return calmbaize_open_run(SETTINGS, PARCEL, OUTPUT, WORDS);
+}
+
+/* Of a parcel: of the new start, of the old, or damaged. */
+static uint64_t by_start(uint64_t under_new, uint64_t under_old)
+{
+    if (now.changed)
+        return refused(CALMBAIZE_REFUSED_TAG, 0);
+    return now.old ? under_old : under_new;
+}
+
+static uint64_t opened(void)
+{
+    return by_start(now.message_len, refused(CALMBAIZE_REFUSED_TAG, 0));
+}
+
+static uint64_t open_old(void)
+{
+    return calmbaize_open_old(SETTINGS, PARCEL, OUTPUT);
+}
+
+static uint64_t opened_old(void)
+{
+    return by_start(refused(CALMBAIZE_REFUSED_TAG, 0), now.message_len);
+}
+
+static unsigned one_verdict(void)
+{
+    return verdict;
+}
+
+static uint64_t convert(void)
+{
+    return calmbaize_convert(SETTINGS, PARCEL, OUTPUT);
+}
+
+static uint64_t converted(void)
+{
+    return by_start(refused(CALMBAIZE_REFUSED_DONE_ALREADY, 0), now.parcel_len);
+}
+
+/* It tries the new start where the old one fails. */
+static unsigned starts_tried(void)
+{
+    return now.changed || !now.old ? 2 : 1;
 }
 
 static void with_lengths(const struct plan *plan, void (*visit)(void))
@@ -270,12 +184,6 @@ static void seal_parcels(void)
         now.sealed_len = 0;
 }
 
-static void damage(uint8_t *bytes)
-{
-    for (size_t i = 0; i < now.sealed_len; i++)
-        bytes[i] ^= (uint8_t)(now.changed & -(i == now.place));
-}
-
 static void choose_parcel(void)
 {
     uint8_t old = (uint8_t)-now.old;
@@ -283,6 +191,26 @@ static void choose_parcel(void)
     for (size_t i = 0; i < now.parcel_len; i++)
         secrets.parcel[i] = (uint8_t)((sealed[1][i] & old) | (sealed[0][i] & ~old));
     damage(secrets.parcel);
+}
+
+static const struct kind messages = {with_messages, unsealed, unsealed, whole, 1};
+static const struct kind parcels = {with_messages, seal_parcels, choose_parcel, starts, 2};
+
+/* Masks. */
+
+static uint64_t walk(void)
+{
+    return calmbaize_walk(START, steps + now.first_step, now.steps_len, OUTPUT);
+}
+
+static uint64_t jump(void)
+{
+    return calmbaize_jump(START, now.alpha, now.beta, now.gamma, OUTPUT);
+}
+
+static uint64_t block_len(void)
+{
+    return BLOCK;
 }
 
 /* Each kind of step alone and in a run, all kinds in runs and in turn, and no step. */
@@ -313,6 +241,102 @@ static void with_counts(const struct plan *plan, void (*visit)(void))
         for (now.beta = -7; now.beta <= 7; now.beta += 7)
             for (now.gamma = -7; now.gamma <= 7; now.gamma += 7)
                 visit();
+}
+
+static const struct kind walks = {with_steps, unsealed, unsealed, whole, 1};
+static const struct kind jumps = {with_counts, unsealed, unsealed, whole, 1};
+
+/* The store. */
+
+static struct record *record_of(size_t sale)
+{
+    return &secrets.records[sale % RECORDS];
+}
+
+/* The sale's sealed record and tag. */
+static uint8_t *part_of(size_t sale)
+{
+    return store + CELL * (sale + 1) - SEALED;
+}
+
+/* Of a sale that is named: there and whole, or damaged. */
+static uint64_t by_sale(uint64_t sound, uint64_t damaged)
+{
+    if (now.sale > now.sales)
+        return refused(CALMBAIZE_REFUSED_SALE_NUMBERS, 0);
+    return now.changed ? damaged : sound;
+}
+
+static uint64_t store_format(void)
+{
+    return calmbaize_store_format(STORE);
+}
+
+static uint64_t nothing(void)
+{
+    return 0;
+}
+
+static uint64_t store_take(void)
+{
+    const struct record *record = record_of(now.sale);
+
+    return calmbaize_store_take(KEY, STORE, SALE, tail, record->amount, record->column,
+                                record->means, record->clock);
+}
+
+static uint64_t taken(void)
+{
+    if (now.sale <= now.sales)
+        return refused(CALMBAIZE_REFUSED_SALE_NUMBERS, 0);
+    return now.sales + 1 < now.store_len / CELL ? now.sale
+                                                : refused(CALMBAIZE_REFUSED_STORE_FULL, 0);
+}
+
+static uint64_t store_cancel(void)
+{
+    return calmbaize_store_cancel(KEY, STORE, SALE);
+}
+
+static uint64_t cancelled(void)
+{
+    return by_sale(record_of(now.sale)->amount, refused(CALMBAIZE_REFUSED_TAG, now.sale));
+}
+
+static unsigned sale_opened(void)
+{
+    return now.sale <= now.sales;
+}
+
+/* A wrong total is a wrong answer. */
+static uint64_t store_total(void)
+{
+    uint64_t total = UINT64_MAX, answer = calmbaize_store_total(KEY, STORE, &total);
+
+    return answer ^ total ^ now.total;
+}
+
+static uint64_t added_up(void)
+{
+    return now.changed ? refused(CALMBAIZE_REFUSED_TAG, now.sale) : 0;
+}
+
+/* The last sale taken is the first in the chain. */
+static unsigned sales_opened(void)
+{
+    return (unsigned)(now.changed ? now.sales - now.sale + 1 : now.sales);
+}
+
+static uint64_t store_read(void)
+{
+    return calmbaize_store_read(STORE, SALE);
+}
+
+static uint64_t found(void)
+{
+    uint64_t offset = CELL * now.sale + 3;
+
+    return by_sale(offset, offset);
 }
 
 static void with_blanks(const struct plan *plan, void (*visit)(void))
@@ -372,12 +396,6 @@ static void seal_sales(void)
         now.sealed_len = SEALED;
 }
 
-/* The sale's sealed record and tag. */
-static uint8_t *part_of(size_t sale)
-{
-    return store + CELL * (sale + 1) - SEALED;
-}
-
 static void choose_sale(void)
 {
     uint64_t coins = 0;
@@ -391,15 +409,6 @@ static void choose_sale(void)
         damage(part_of(now.sale));
 }
 
-static void unsealed(void)
-{
-}
-
-static const char *const starts[] = {"new start", "old start"}, *const whole[] = {"whole"};
-static const struct kind messages = {with_messages, unsealed, unsealed, whole, 1};
-static const struct kind parcels = {with_messages, seal_parcels, choose_parcel, starts, 2};
-static const struct kind walks = {with_steps, unsealed, unsealed, whole, 1};
-static const struct kind jumps = {with_counts, unsealed, unsealed, whole, 1};
 static const struct kind blanks = {with_blanks, unsealed, unsealed, whole, 1};
 static const struct kind new_sales = {with_new_sales, seal_sales, choose_sale, whole, 1};
 static const struct kind sales = {with_sales, seal_sales, choose_sale, whole, 1};

@@ -36,8 +36,9 @@ names() {
     cut -d ' ' -f 2
 }
 
+all=$(symbols)
 for call in $calls; do
-    result "missing call" "$(symbols | grep -qx "T $call" || echo "$call")"
+    result "missing call" "$(echo "$all" | grep -qx "T $call" || echo "$call")"
 done
 # The compiler keeps the crates' own functions local to the archive, so every other global name is one
 # too many: a program could call it, or have one of its own.

@@ -17,7 +17,7 @@ work_folder
 elsewhere='CALMBAIZE_(H|VERSION(_[A-Z]+)?|NODISCARD|[A-Z_]+_STACK_BYTES|FORMAT)'
 
 files "$folder/libcalmbaize.a" "$include/calmbaize.h"
-compile constants "$folder/libcalmbaize.a" -I "$include"
+build constants "$folder/libcalmbaize.a" -I "$include"
 "$work/constants" > "$work/log" || exit 2
 
 sed -nE 's/^[[:space:]]*#[[:space:]]*define[[:space:]]+(CALMBAIZE_[A-Za-z0-9_]+).*/\1/p' \

@@ -17,7 +17,7 @@ if ! command -v valgrind > /dev/null ||
     cant_run "valgrind is missing: install Debian's package valgrind"
 fi
 files "$folder/libcalmbaize.a"
-compile secrets "$folder/libcalmbaize.a" -g
+build secrets "$folder/libcalmbaize.a" -g
 status=0
 valgrind --quiet --error-limit=no --log-file="$work/log" "$work/secrets" ${2:+"$2"} > "$work/counts" ||
     status=$?

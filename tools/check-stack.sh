@@ -15,7 +15,7 @@ work_folder
 files "$folder/libcalmbaize.a"
 names=$(calls "$root/include/calmbaize.h") || exit 2
 # C's memory functions are bound when the program starts: binding in a call would take of its stack.
-compile stack "$folder/libcalmbaize.a" -Wl,-z,now
+build stack "$folder/libcalmbaize.a" -Wl,-z,now
 # Names are words.
 # shellcheck disable=SC2046
 "$work/stack" $(echo "$names" | sed 's/^calmbaize_//; s/(.*//')

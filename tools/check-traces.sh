@@ -18,7 +18,7 @@ work_folder
 command -v valgrind > /dev/null || cant_run "valgrind is missing: install Debian's package valgrind"
 files "$folder/libcalmbaize.a"
 # With -no-pie the trace has the file's addresses.
-compile traces "$folder/libcalmbaize.a" -g -no-pie
+build traces "$folder/libcalmbaize.a" -g -no-pie
 begin=$(nm "$work/traces" | sed -n 's/^0*\([0-9a-f]*\) T begin$/\1/p')
 [ -n "$begin" ] || exit 2
 

@@ -114,9 +114,9 @@ files() {
     done
 }
 
-# compile PROGRAM ARCHIVE OPTIONS...: tools/PROGRAM.c with the calls of calls.c, over the archive, as
+# build PROGRAM ARCHIVE OPTIONS...: tools/PROGRAM.c with the calls of calls.c, over the archive, as
 # $work/PROGRAM. Where OPTIONS do not lead to another header, it is the repository's.
-compile() {
+build() {
     program=$1
     archive=$2
     shift 2
