@@ -99,7 +99,7 @@ plant() {
     copy=$root
     folder=$faulty
     case $1 in
-    c) "$root/tools/stand-in.sh" "$faulty" "$fault" || exit 2 ;;
+    c) "$root/tools/stand-in.sh" "$faulty" "$fault" ${alike:+"$alike"} || exit 2 ;;
     dist/*) rm -rf "$faulty" && cp -R "$sound" "$faulty" && change "$sound/${1#dist/}" "$faulty/${1#dist/}" ;;
     tools/vectors.s) change "$root/$1" "$work/vectors.s" && assemble "$work/vectors.s" ;;
     *) folder=$sound && copy_root && change "$root/$1" "$copy/$1" ;;
@@ -141,6 +141,8 @@ try_fault() {
 read_group() {
     checks=${1%% in *}
     file=${1#* in }
+    # The others look at one archive only.
+    case $checks in install* | bench*) alike= ;; *) alike=alike ;; esac
     needed=true
     case $file in *" where "*) needed=${file#* where } ;; esac
     file=${file%% where *}
