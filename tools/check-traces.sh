@@ -1,8 +1,7 @@
 #!/bin/sh
-# Where the store's answer tells whether a sale opens, and convert's under which start a parcel does, the
-# machine code may branch on that, and on nothing else that is secret: under every set of secrets with
-# the same answers, such a call uses the same instructions and addresses, as valgrind's lackey writes them
-# down.
+# Where an answer tells whether a sale opens, or under which start a parcel does, the machine code may branch
+# on that, and on nothing else that is secret: under every set of secrets with the same answers, such a call
+# uses the same instructions and addresses, as valgrind's lackey writes them down.
 #
 # usage: check-traces.sh [FOLDER]
 #

@@ -9,9 +9,8 @@
  * VERDICT is how many branches on whether the tag differs are allowed in an open call, 0 if it is
  * not given. Comparing the tag itself may never branch, and takes more than one branch if it does.
  *
- * The store's answer tells which sale does not open, so one branch is allowed for each sale that a
- * call opens. Convert's tells under which start the parcel opens, so one is allowed for each start that
- * it tries. That these are on nothing but this, the check of the traces shows.
+ * Where the answer tells which sale does not open, or under which start a parcel does, one branch is
+ * allowed for each that the call tries. That these are on nothing but this, the check of the traces shows.
  */
 #include <stdio.h>
 #include <stdlib.h>
