@@ -1,6 +1,7 @@
 #!/bin/sh
 # The round and G stand as the paper's section 8 prints them, step for step and in its order: in the
-# definitions, in the code, and on the page that puts the three beside each other. The proofs can't see
+# definitions, in the code, and on the page that puts the three beside each other. So does the round on
+# four blocks side by side, which takes its steps by the same table and the same G. The proofs can't see
 # the order of the columns, or of the diagonals: it changes no result.
 #
 # usage: check-printed.sh [FOLDER]
@@ -13,15 +14,18 @@ cd "${1:-$root}" || exit 2
 definitions=crates/permutation/specs/Permutation.antt
 groups=crates/permutation/src/round.rt
 lines=crates/permutation/src/g.rt
+groups4=crates/lanes/src/round.rt
+lines4=crates/lanes/src/g.rt
 page=docs/PAPER.md
-for file in "$definitions" "$groups" "$lines" "$page"; do
+for file in "$definitions" "$groups" "$lines" "$groups4" "$lines4" "$page"; do
     if [ ! -f "$file" ]; then
         echo "check-printed: $file is missing" >&2
         exit 2
     fi
 done
 
-awk -v definitions="$definitions" -v groups="$groups" -v lines="$lines" -v page="$page" '
+awk -v definitions="$definitions" -v groups="$groups" -v lines="$lines" -v page="$page" \
+    -v groups4="$groups4" -v lines4="$lines4" '
 # The lines stand in the file one below the other, in a paragraph with a line that begins so. Blanks
 # before a line, and the sign that joins it to a list, do not count.
 function check(file, beginning, wanted,    part, found) {
@@ -60,13 +64,32 @@ BEGIN {
         else diagonals = diagonals "\n" definition
         table = table "\n" entry
         round = round "\n" call
+        round4 = round4 "\nstep4(w, " k - 1 ");"
         rows = rows row(printed, definition, entry, call)
     }
     check(definitions, "columns =", columns)
     check(definitions, "diagonals =", diagonals)
     check(groups, "pub const GROUPS", table)
     check(groups, "pub fn round(", round)
+    check(groups4, "pub fn round4(", round4)
     check(page, "| Section 8 |", rows)
+
+    # Step k of either round is the one G, at the words that row k of the one table names.
+    named = "q[0], q[1], q[2], q[3])"
+    check(groups, "fn step(", "\nlet q = GROUPS[k];\ng_at(s, " named)
+    check(groups4, "fn step4(", "\nlet q = GROUPS[k];\ng4(w, " named ";")
+    check(groups4, "use ", "\nuse permutation::round::GROUPS;")
+    check(lines4, "use ", "\nuse permutation::g::g;")
+    for (m = 0; m < 4; m++) lanes = lanes "\ng_lane(w, i, j, k, l, " m ");"
+    check(lines4, "pub fn g4(", lanes)
+    split("a b c d", letter, " ")
+    split("i j k l", word, " ")
+    for (n = 1; n <= 4; n++) {
+        taken = taken "\n" letter[n] ": s[" word[n] "],"
+        taken4 = taken4 "\n" letter[n] ": w[4 * " word[n] " + m],"
+    }
+    check(lines, "pub fn g_at(", "\nlet made = g(Quad {" taken)
+    check(lines4, "fn g_lane(", "\nlet made = g(Quad {" taken4)
 
     # Section 8: the assignments of G, a sum of two words, or a word xor another rotated right by a number.
     n = split("a b,d a 32,c d,b c 24,a b,d a 16,c d,b c 63", step, ",")
