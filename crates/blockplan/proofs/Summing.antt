@@ -11,7 +11,7 @@ use Rattle.words.specs.Block.{blockOf, xorBlock, zeroBlock}
 use Rattle.words.proofs.Lists.{tailPart, nextPart}
 use Rattle.masks.specs.Steps.{alpha}
 use Rattle.mem.specs.Mem.{encipher, decipher}
-use Rattle.blockplan.specs.Plan.{whole, blockAt, xorOver}
+use Rattle.blockplan.specs.Plan.{whole, left, blockAt, xorOver}
 use Rattle.blockplan.specs.Pass.{madeAt, under, stepping}
 use Rattle.blockplan.proofs.Leftovers.{whole-is}
 use Rattle.blockplan.proofs.Sums.{summed}
@@ -43,7 +43,13 @@ module _ (opening : Bool) (rounds : ℕ) (first s : List ℕ) where
       mask-is = stepping-on first mask next (here .count) (here .mask-is) q;
     }
 
+    all-in : length rest < 128 → here .count ≡ whole s
+    all-in h = whole-is s (here .count) (length rest) (here .lengths) h
+
     pub summing-done : length rest < 128 → (sum ≡ xorOver (madeAt (under opening rounds (stepping first)) s) (whole s)) × (mask ≡ stepping first (whole s))
-    summing-done h =
-        let e : here .count ≡ whole s = whole-is s (here .count) (length rest) (here .lengths) h in
-        (rw e at (here .sum-is), rw e at (here .mask-is))
+    summing-done h = (rw (all-in h) at (here .sum-is), rw (all-in h) at (here .mask-is))
+
+    -- what is handed on at the end is the leftover
+    pub summing-left : length rest < 128 → rest ≡ left s
+    unfolding left
+    summing-left h = rw (all-in h) at (here .left)

@@ -1,6 +1,5 @@
 // Header and message summed, and the block that begins with their tag.
 use blockplan::absorb::absorb;
-use blockplan::absorb::absorb_left;
 use masks::steps::beta;
 use mem::cipher::encipher;
 use words::block::xor;
@@ -15,17 +14,11 @@ ghost use Rattle.blockplan.specs.Plan.{xorOver};
 ghost use Rattle.blockplan.specs.Pass.{madeAt, under, stepping};
 ghost use Rattle.mro.specs.Mro.{blocks, mroSum, lengths};
 
-// The sum of all blocks of s, a padded one included, the first under the mask given.
+// The sum of all blocks of s, one padded with zeros included, the first under the mask given.
 fn absorb_all(s: &[u8], first: [u64; 16], rounds: u32) -> [u64; 16]
     ensures { λ r. ⌜ r ≡ xorOver (madeAt (under false rounds (stepping first)) (now (s .entry))) (blocks (now (s .entry))) ⌝ }
 {
-    let front = absorb(s, first, rounds);
-    let sum = front.sum;
-    if s.len() % 128 == 0 {
-        return sum;
-    }
-    let mask = front.mask;
-    absorb_left(sum, s, 0, mask, rounds)
+    absorb(s, first, false, 0, rounds)
 }
 
 // E of the sum xor the two lengths: the block whose first 32 bytes are the tag.

@@ -1,9 +1,7 @@
 // Header and message summed, and the block that begins with their tag.
-use blockplan::absorb::absorb_left;
 use mro::sums::tag_under;
 use run_sums::absorb;
 use runs::windows::beta_twice_of;
-use runs::windows::mask_at;
 use words::block::xor;
 ghost use mathlib.Core.Path.{_≡_};
 ghost use mathlib.Core.Bool.{false};
@@ -16,14 +14,12 @@ ghost use Rattle.blockplan.specs.Plan.{whole, xorOver};
 ghost use Rattle.blockplan.specs.Pass.{madeAt, under};
 ghost use Rattle.mro.specs.Mro.{blocks, mroSum, lengths};
 
-// The sum of all blocks of s, a padded one included.
+// The sum of all blocks of s, one padded with zeros included.
 fn absorb_all(run: &[u64], kind: u32, rounds: u32, s: &[u8]) -> [u64; 16]
     requires { ⌜ (whole (now s) + 21 ≤ length (now run)) × (kind < 3) ⌝ }
     ensures { λ r. ⌜ r ≡ xorOver (madeAt (under false rounds (maskFrom kind (now (run .entry)))) (now (s .entry))) (blocks (now (s .entry))) ⌝ }
 {
-    let sum = absorb(run, kind, rounds, s);
-    let mask = mask_at(run, s.len() / 128, kind);
-    absorb_left(sum, s, 0, mask, rounds)
+    absorb(run, kind, kind, 0, rounds, s)
 }
 
 // The block whose first 32 bytes are the tag.

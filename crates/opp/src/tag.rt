@@ -1,7 +1,6 @@
 // The sum over the header, and the block whose first 32 bytes are the tag.
 use blockplan::Summed;
 use blockplan::absorb::absorb;
-use blockplan::absorb::absorb_left;
 use masks::steps::beta;
 use mem::cipher::encipher;
 use words::block::xor;
@@ -11,17 +10,11 @@ ghost use Rattle.masks.specs.Steps.{beta as betaOf};
 ghost use Rattle.mem.specs.Mem.{encipher as encipherOf};
 ghost use Rattle.opp.specs.Opp.{oppSum};
 
-// Sum: the header's whole blocks, and its leftover under a mask a beta step on.
+// Sum: the header's whole blocks, and its leftover, padded with byte 1, under a mask a beta step on.
 fn header_sum(start: [u64; 16], rounds: u32, header: &[u8]) -> [u64; 16]
     ensures { λ r. ⌜ r ≡ oppSum rounds start (now (header .entry)) ⌝ }
 {
-    let blocks = absorb(header, start, rounds);
-    let sum = blocks.sum;
-    if header.len() % 128 == 0 {
-        return sum;
-    }
-    let mask = blocks.mask;
-    absorb_left(sum, header, 1, beta(mask), rounds)
+    absorb(header, start, true, 1, rounds)
 }
 
 // Sum, xor E of the check under a mask two beta steps on from the one that the pass ends with.

@@ -1,10 +1,8 @@
 // The sum over the header, and the block whose first 32 bytes are the tag.
-use blockplan::absorb::absorb_left;
 use mem::cipher::encipher;
 use run_sums::absorb;
 use runs::windows::beta_thrice_of;
 use runs::windows::beta_twice_of;
-use runs::windows::mask_at;
 use words::block::xor;
 ghost use mathlib.Core.Path.{_≡_};
 ghost use mathlib.Core.Bool.{cond};
@@ -16,14 +14,12 @@ ghost use Rattle.mem.specs.Mem.{maskAt, encipher as encipherOf};
 ghost use Rattle.blockplan.specs.Plan.{whole, hasLeft};
 ghost use Rattle.opp.specs.Opp.{oppSum};
 
-// Sum: the header's whole blocks, and its leftover under a beta mask.
+// Sum: the header's whole blocks, and its leftover, padded with byte 1, under a beta mask.
 fn header_sum(run: &[u64], rounds: u32, header: &[u8]) -> [u64; 16]
     requires { ⌜ IsRun (now run) × (whole (now header) + 21 ≤ length (now run)) ⌝ }
     ensures { λ r. ⌜ r ≡ oppSum rounds (take 16 (now (run .entry))) (now (header .entry)) ⌝ }
 {
-    let sum = absorb(run, 0, rounds, header);
-    let mask = mask_at(run, header.len() / 128, 1);
-    absorb_left(sum, header, 1, mask, rounds)
+    absorb(run, 0, 1, 1, rounds, header)
 }
 
 // The mask of the check over a message as long as s.

@@ -77,7 +77,7 @@ pieces-more g h n k old xs ys each same e q =
     fronted (128 * n) (128 * k) (cat g n) (cat h k) old xs ys (length-cat g 128 n each) e q
     ∙ rw (far, cat-add g n k, cat-ext h (λ j. g (n + j)) k (λ j p. same j), append-assoc)
 
-left-moved : (s : List ℕ) (n : ℕ) → n ≤ whole s → left (drop (128 * n) s) ≡ left s
+pub left-moved : (s : List ℕ) (n : ℕ) → n ≤ whole s → left (drop (128 * n) s) ≡ left s
 unfolding left
 left-moved s n h =
     let e : 128 * n + 128 * (whole s - n) ≡ 128 * whole s = omega (arith, h) in
