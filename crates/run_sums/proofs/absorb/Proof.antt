@@ -1,5 +1,5 @@
 -- The loop's invariant: the first n blocks are in the sum, and the rest is the part behind them. Assumes nothing.
-use mathlib.Core.Path.{_≡_, refl, ap, _∙_}
+use mathlib.Core.Path.{_≡_, refl, _∙_}
 use mathlib.Core.Bool.{false}
 use Prim.Native.Nat.{_*_, _≤_, _+_}
 use native.Mathlib.Nat.{zero-add}
