@@ -74,7 +74,7 @@ lineAt false ground place next = next
 unfoldable pub line : Bool → Ground → Check → Check
 line test ground next = lineAt test ground 0 next
 
--- the line of many calls: the output shorter than success writes
+-- the line of many calls: the output shorter than success writes (of the run's calls, likewise the words)
 unfoldable pub room : ℕ → ℕ → Check → Check
 room needed lent next = line (ltb lent needed) OutputLength next
 

@@ -18,7 +18,7 @@ pub enum Ground {
     HeaderLength,
     // The message or the parcel is too long.
     InputLength,
-    // The output is shorter than success writes.
+    // The output is shorter than success writes, or the words are fewer than the run.
     OutputLength,
     // The parcel is under 32 bytes.
     TagMissing,

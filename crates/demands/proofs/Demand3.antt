@@ -18,7 +18,7 @@ use Rattle.answers.specs.declared.Answer.the-variants.{Done}
 use Rattle.words.specs.Undo.{Undo}
 use Rattle.back_steps.proofs.BackAlpha.{alpha-undo}
 use Rattle.back_steps.proofs.Undoing.{beta-undo, gamma-undo}
-use Rattle.walking.specs.Walking.{step, walked, taken, jumped, isStep, firstBad, inRange, walkChecks, jumpChecks, walkCall, jumpCall}
+use Rattle.walking.specs.Walking.{step, walked, netSteps, jumped, isStep, firstBad, inRange, walkChecks, jumpChecks, walkCall, jumpCall}
 use Rattle.demands.specs.Demand3.{Start, Steps, count, net, mask, Demand3}
 use Rattle.demands.proofs.Walked.{leads, walked-linear}
 
@@ -93,7 +93,7 @@ walk-is-jump start steps out a l =
     ∙ sym (jump-answers start steps out a l)
 
 zero-nets : (start l : List ℕ) → Start start → Steps l → net 1 l ≡ pos 0 → net 2 l ≡ pos 0 → net 3 l ≡ pos 0 → mask start l ≡ start
-unfolding jumped taken times
+unfolding jumped netSteps times
 zero-nets start l a h p q r =
     mask-is start l a h
     ∙ ap bytesOf (leads l (blockOf start) (block start a) ∙ rw (p, q, r))

@@ -26,7 +26,7 @@ use Rattle.checks.specs.Checks.{settings, openInputs, runLength, sealRunChecks,
 use Rattle.checks.proofs.Runs.{run-long, seal-run-after, open-run-after, seal-run-same, open-run-same}
 use Rattle.sealing.specs.Sealing.{verdict, sealFrom, openFrom, sealCall, openCall}
 use Rattle.run_sealing.specs.RunSealing.{runIn, sealRunCall, openRunCall}
-use Rattle.demands.specs.Engines.{OneRun, without, SameEngine}
+use Rattle.demands.specs.Engines.{OneRun, withoutWords, SameEngine}
 
 pub one-run : OneRun
 unfolding alphaW
@@ -47,10 +47,10 @@ abbrev wordsOf : Answer × (List ℕ × List ℕ) → List ℕ
 wordsOf r = r .1 .1
 
 module _ (out words : List ℕ) (r : Answer × (List ℕ × List ℕ)) where
-  without-checked : (c : Check) → without (checked c (out, words) r) ≡ checked c out (without r)
+  withoutWords-checked : (c : Check) → withoutWords (checked c (out, words) r) ≡ checked c out (withoutWords r)
   unfolding checked
-  without-checked Clear = refl
-  without-checked (Fails g at) = refl
+  withoutWords-checked Clear = refl
+  withoutWords-checked (Fails g at) = refl
 
   -- what was not refused by the checks
   clear-done : (c : Check) (n : ℕ) → checked c (out, words) r .0 ≡ Done n → checked c (out, words) r ≡ r
@@ -65,13 +65,13 @@ module _ (out words : List ℕ) (r : Answer × (List ℕ × List ℕ)) where
   found-first (Fails h k) g at never e = refl
 
 -- where the checks find the same, and the same is written but for the words
-same-checked : (out words : List ℕ) (r : Answer × (List ℕ × List ℕ)) (c d : Check) → c ≡ d → without (checked c (out, words) r) ≡ checked d out (without r)
-same-checked out words r c d e = without-checked out words r c ∙ ap (λ (x : Check). checked x out (without r)) e
+same-checked : (out words : List ℕ) (r : Answer × (List ℕ × List ℕ)) (c d : Check) → c ≡ d → withoutWords (checked c (out, words) r) ≡ checked d out (withoutWords r)
+same-checked out words r c d e = withoutWords-checked out words r c ∙ ap (λ (x : Check). checked x out (withoutWords r)) e
 
-whatever : (out words other : List ℕ) (r q : Answer × (List ℕ × List ℕ)) (c d : Check) → without r ≡ without q → c ≡ d
-    → without (checked c (out, words) r) ≡ without (checked d (out, other) q)
+whatever : (out words other : List ℕ) (r q : Answer × (List ℕ × List ℕ)) (c d : Check) → withoutWords r ≡ withoutWords q → c ≡ d
+    → withoutWords (checked c (out, words) r) ≡ withoutWords (checked d (out, other) q)
 whatever out words other r q c d e f =
-    without-checked out words r c ∙ ap₂ (λ (x : Check) (y : Answer × List ℕ). checked x out y) f e ∙ sym (without-checked out other q d)
+    withoutWords-checked out words r c ∙ ap₂ (λ (x : Check) (y : Answer × List ℕ). checked x out y) f e ∙ sym (withoutWords-checked out other q d)
 
 refused-as : (before : List ℕ × List ℕ) (r : Answer × (List ℕ × List ℕ)) (c : Check) (g : Ground) (at : ℕ) → c ≡ Fails g at → checked c before r ≡ (Refused g at, before)
 unfolding checked

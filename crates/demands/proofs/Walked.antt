@@ -14,35 +14,35 @@ use Rattle.back_steps.specs.BackSteps.{backAlpha, backBeta, backGamma}
 use Rattle.back_steps.proofs.BackAlpha.{alpha-undo}
 use Rattle.back_steps.proofs.Undoing.{beta-undo, gamma-undo}
 use Rattle.back_steps.proofs.Laws.{Step, alpha-step, beta-step, gamma-step, back-step}
-use Rattle.walking.specs.Walking.{step, walked, taken, jumped}
+use Rattle.walking.specs.Walking.{step, walked, netSteps, jumped}
 use Rattle.demands.specs.Demand3.{count, net}
-use Rattle.demands.proofs.Order.{taken-more, taken-less, taken-keeps, taken-commute}
+use Rattle.demands.proofs.Order.{netSteps-more, netSteps-less, netSteps-keeps, netSteps-commute}
 
 -- ---- a move ahead of a jump counts for its own kind
 
 module _ (i j k : ℤ) (s : List ℕ) (b : Block s) where
-  first : (h : List ℕ → List ℕ) (i′ : ℤ) → taken alpha backAlpha i (h s) ≡ taken alpha backAlpha i′ s → jumped i j k (h s) ≡ jumped i′ j k s
+  first : (h : List ℕ → List ℕ) (i′ : ℤ) → netSteps alpha backAlpha i (h s) ≡ netSteps alpha backAlpha i′ s → jumped i j k (h s) ≡ jumped i′ j k s
   unfolding jumped
-  first h i′ e = ap (λ (x : List ℕ). taken gamma backGamma k (taken beta backBeta j x)) e
+  first h i′ e = ap (λ (x : List ℕ). netSteps gamma backGamma k (netSteps beta backBeta j x)) e
 
-  reached : Block (taken alpha backAlpha i s)
-  reached = taken-keeps alpha-undo i s b
+  reached : Block (netSteps alpha backAlpha i s)
+  reached = netSteps-keeps alpha-undo i s b
 
   second : (h : List ℕ → List ℕ) (j′ : ℤ) → Keeps Block h → Commute Block h alpha
-      → ((t : List ℕ) → Block t → taken beta backBeta j (h t) ≡ taken beta backBeta j′ t) → jumped i j k (h s) ≡ jumped i j′ k s
+      → ((t : List ℕ) → Block t → netSteps beta backBeta j (h t) ≡ netSteps beta backBeta j′ t) → jumped i j k (h s) ≡ jumped i j′ k s
   unfolding jumped
   second h j′ keeps c e =
-      ap (taken gamma backGamma k)
-      (ap (taken beta backBeta j) (sym (taken-commute alpha-undo h keeps c i s b))
-      ∙ e (taken alpha backAlpha i s) reached)
+      ap (netSteps gamma backGamma k)
+      (ap (netSteps beta backBeta j) (sym (netSteps-commute alpha-undo h keeps c i s b))
+      ∙ e (netSteps alpha backAlpha i s) reached)
 
   third : (h : List ℕ → List ℕ) (k′ : ℤ) → Keeps Block h → Commute Block h alpha → Commute Block h beta
-      → ((t : List ℕ) → Block t → taken gamma backGamma k (h t) ≡ taken gamma backGamma k′ t) → jumped i j k (h s) ≡ jumped i j k′ s
+      → ((t : List ℕ) → Block t → netSteps gamma backGamma k (h t) ≡ netSteps gamma backGamma k′ t) → jumped i j k (h s) ≡ jumped i j k′ s
   unfolding jumped
   third h k′ keeps c d e =
-      ap (λ (x : List ℕ). taken gamma backGamma k (taken beta backBeta j x)) (sym (taken-commute alpha-undo h keeps c i s b))
-      ∙ ap (taken gamma backGamma k) (sym (taken-commute beta-undo h keeps d j (taken alpha backAlpha i s) reached))
-      ∙ e (taken beta backBeta j (taken alpha backAlpha i s)) (taken-keeps beta-undo j (taken alpha backAlpha i s) reached)
+      ap (λ (x : List ℕ). netSteps gamma backGamma k (netSteps beta backBeta j x)) (sym (netSteps-commute alpha-undo h keeps c i s b))
+      ∙ ap (netSteps gamma backGamma k) (sym (netSteps-commute beta-undo h keeps d j (netSteps alpha backAlpha i s) reached))
+      ∙ e (netSteps beta backBeta j (netSteps alpha backAlpha i s)) (netSteps-keeps beta-undo j (netSteps alpha backAlpha i s) reached)
 
 -- ---- any two moves commute
 
@@ -84,13 +84,13 @@ ahead : (k : ℕ) (l s : List ℕ) → Block s
     → jumped (net 1 l) (net 2 l) (net 3 l) (step k s) ≡ jumped (net 1 (k ∷ l)) (net 2 (k ∷ l)) (net 3 (k ∷ l)) s
 unfolding step net count
 ahead zero l s b = refl
-ahead (suc zero) l s b = first _ _ _ s b alpha _ (taken-more alpha-undo (count 1 l) (count 4 l) s b)
-ahead (suc (suc zero)) l s b = second _ _ _ s b beta _ (beta-undo .forth-keeps) beta-alpha (taken-more beta-undo (count 2 l) (count 5 l))
-ahead (suc (suc (suc zero))) l s b = third _ _ _ s b gamma _ (gamma-undo .forth-keeps) gamma-alpha gamma-beta (taken-more gamma-undo (count 3 l) (count 6 l))
-ahead (suc (suc (suc (suc zero)))) l s b = first _ _ _ s b backAlpha _ (taken-less alpha-undo (count 1 l) (count 4 l) s b)
-ahead (suc (suc (suc (suc (suc zero))))) l s b = second _ _ _ s b backBeta _ (beta-undo .back-keeps) backBeta-alpha (taken-less beta-undo (count 2 l) (count 5 l))
+ahead (suc zero) l s b = first _ _ _ s b alpha _ (netSteps-more alpha-undo (count 1 l) (count 4 l) s b)
+ahead (suc (suc zero)) l s b = second _ _ _ s b beta _ (beta-undo .forth-keeps) beta-alpha (netSteps-more beta-undo (count 2 l) (count 5 l))
+ahead (suc (suc (suc zero))) l s b = third _ _ _ s b gamma _ (gamma-undo .forth-keeps) gamma-alpha gamma-beta (netSteps-more gamma-undo (count 3 l) (count 6 l))
+ahead (suc (suc (suc (suc zero)))) l s b = first _ _ _ s b backAlpha _ (netSteps-less alpha-undo (count 1 l) (count 4 l) s b)
+ahead (suc (suc (suc (suc (suc zero))))) l s b = second _ _ _ s b backBeta _ (beta-undo .back-keeps) backBeta-alpha (netSteps-less beta-undo (count 2 l) (count 5 l))
 ahead (suc (suc (suc (suc (suc (suc zero)))))) l s b =
-    third _ _ _ s b backGamma _ (gamma-undo .back-keeps) backGamma-alpha backGamma-beta (taken-less gamma-undo (count 3 l) (count 6 l))
+    third _ _ _ s b backGamma _ (gamma-undo .back-keeps) backGamma-alpha backGamma-beta (netSteps-less gamma-undo (count 3 l) (count 6 l))
 ahead (suc (suc (suc (suc (suc (suc (suc k))))))) l s b = stays (suc (suc (suc (suc (suc (suc (suc k))))))) (omega arith) l s
 
 stay : Step (λ s. s) (λ s. s)
@@ -112,7 +112,7 @@ step-keeps : (k : ℕ) → Keeps Block (step k)
 step-keeps k = moves k .1 .undo .forth-keeps
 
 nowhere : (s : List ℕ) → s ≡ jumped (net 1 []) (net 2 []) (net 3 []) s
-unfolding jumped taken net count times
+unfolding jumped netSteps net count times
 nowhere s = refl
 
 pub leads : (l s : List ℕ) → Block s → walked l s ≡ jumped (net 1 l) (net 2 l) (net 3 l) s

@@ -41,8 +41,8 @@ abbrev pub OneRun : Type 0
 OneRun = (s : List ℕ) → Block s → RunOf s
 
 -- the answer and the output of a call that writes words too
-abbrev pub without : Answer × (List ℕ × List ℕ) → Answer × List ℕ
-without r = (r .0, r .1 .0)
+abbrev pub withoutWords : Answer × (List ℕ × List ℕ) → Answer × List ℕ
+withoutWords r = (r .0, r .1 .0)
 
 -- the input is a message where it is sealed, and a parcel where it is opened
 module _ (mode rounds : ℕ) (key nonce header input out words : List ℕ) where
@@ -74,17 +74,17 @@ module _ (mode rounds : ℕ) (key nonce header input out words : List ℕ) where
   -- the calls from a run beside seal and open
   pub record Alike : Type 0 where
     -- with words enough, the same answer and the same output, refusals too
-    pub seals : sealWords ≤ length words → without sealedFromRun ≡ sealCall mode rounds key nonce header input out
-    pub opens : openWords ≤ length words → without openedFromRun ≡ openCall mode rounds key nonce header input out
+    pub seals : sealWords ≤ length words → withoutWords sealedFromRun ≡ sealCall mode rounds key nonce header input out
+    pub opens : openWords ≤ length words → withoutWords openedFromRun ≡ openCall mode rounds key nonce header input out
     -- what seal and open refuse by their checks is refused as they do, however many words there are, and nothing changes
     pub seals-refused : (ground : Ground) (place : ℕ) → sealFinds ≡ Fails ground place → sealedFromRun ≡ (Refused ground place, (out, words))
     pub opens-refused : (ground : Ground) (place : ℕ) → openFinds ≡ Fails ground place → openedFromRun ≡ (Refused ground place, (out, words))
-    -- words too few: 7, where nothing else is refused, and nothing changes
+    -- words too few: 7, where the checks of seal or open find nothing, and nothing changes; so it comes before open's 9
     pub seals-short : sealFinds ≡ Clear → length words < sealWords → sealedFromRun ≡ (Refused OutputLength 0, (out, words))
     pub opens-short : openFinds ≡ Clear → length words < openWords → openedFromRun ≡ (Refused OutputLength 0, (out, words))
     -- what stood in the words does not matter, only how many there are
-    pub seals-whatever : (other : List ℕ) → length words ≡ length other → without sealedFromRun ≡ without (sealRunCall mode rounds key nonce header input out other)
-    pub opens-whatever : (other : List ℕ) → length words ≡ length other → without openedFromRun ≡ without (openRunCall mode rounds key nonce header input out other)
+    pub seals-whatever : (other : List ℕ) → length words ≡ length other → withoutWords sealedFromRun ≡ withoutWords (sealRunCall mode rounds key nonce header input out other)
+    pub opens-whatever : (other : List ℕ) → length words ≡ length other → withoutWords openedFromRun ≡ withoutWords (openRunCall mode rounds key nonce header input out other)
     -- after success, and after 9, the words hold the run
     pub seals-words : Bytes key → Bytes nonce → (n : ℕ) → sealedFromRun .0 ≡ Done n → HoldsRun sealWords sealedFromRun
     pub opens-words : Bytes key → Bytes nonce → (n : ℕ) → openedFromRun .0 ≡ Done n → HoldsRun openWords openedFromRun

@@ -19,7 +19,7 @@ use Rattle.ledger.specs.Book.{Call, Book, found, coins, newBook, entered
 use Rattle.ledger.specs.Book.Call.{format, take, cancel, total, read}
 
 module _ (key : List ℕ) where
-  -- what a call answers and leaves in the store; total and read leave it as it is
+  -- what a call answers and leaves in the store; total and read leave it as it is, and read's answer is the offset that C gets
   unfoldable pub called : Call → List ℕ → Answer × List ℕ
   called format s = formatCall s
   called (take x) s = takeCall key x s

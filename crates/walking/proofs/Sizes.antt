@@ -8,7 +8,7 @@ use lib.Dec.{T, lit<}
 use lib.IntN.{ℤ, pos, negsuc, natAbs, _+ℤ_, _-ℤ_, +ℤ-one, +ℤ-idl}
 use lib.Signed.{ltZ, nonNeg}
 use Rattle.words.specs.Sequence.{times}
-use Rattle.walking.specs.Walking.{taken, inRange}
+use Rattle.walking.specs.Walking.{netSteps, inRange}
 use mir.Syntax.{w32}
 use mir.Val.{SFits, Fits, toZ, ofZ}
 use mir.Facts.{toZ-ofZ}
@@ -43,15 +43,15 @@ positive (negsuc n) h f = absurd (true≢false h)
 
 -- ---- a kind taken a signed number of times, by its size
 
-pub taken-back : (f g : List ℕ → List ℕ) (z : ℤ) (b : List ℕ) → ltZ z (pos 0) ≡ true → times g (natAbs z) b ≡ taken f g z b
-unfolding taken
-taken-back f g (pos n) b h = let p : n < 0 = ltb-true n 0 h in absurd (omega arith)
-taken-back f g (negsuc n) b h = refl
+pub netSteps-back : (f g : List ℕ → List ℕ) (z : ℤ) (b : List ℕ) → ltZ z (pos 0) ≡ true → times g (natAbs z) b ≡ netSteps f g z b
+unfolding netSteps
+netSteps-back f g (pos n) b h = let p : n < 0 = ltb-true n 0 h in absurd (omega arith)
+netSteps-back f g (negsuc n) b h = refl
 
-pub taken-on : (f g : List ℕ → List ℕ) (z : ℤ) (b : List ℕ) → ltZ z (pos 0) ≡ false → times f (natAbs z) b ≡ taken f g z b
-unfolding taken
-taken-on f g (pos n) b h = refl
-taken-on f g (negsuc n) b h = absurd (true≢false h)
+pub netSteps-on : (f g : List ℕ → List ℕ) (z : ℤ) (b : List ℕ) → ltZ z (pos 0) ≡ false → times f (natAbs z) b ≡ netSteps f g z b
+unfolding netSteps
+netSteps-on f g (pos n) b h = refl
+netSteps-on f g (negsuc n) b h = absurd (true≢false h)
 
 -- what a test of a count, read back from the machine, says of the count
 pub tested : (z : ℤ) {r t : Bool} → SFits w32 z → r ≡ inRange (toZ w32 (ofZ w32 z)) → r ≡ t → inRange z ≡ t

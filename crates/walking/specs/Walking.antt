@@ -33,13 +33,13 @@ walked [] b = b
 walked (k ∷ ks) b = walked ks (step k b)
 
 -- that many steps, back steps where negative
-unfoldable pub taken : (List ℕ → List ℕ) → (List ℕ → List ℕ) → ℤ → List ℕ → List ℕ
-taken forward back (pos n) b = times forward n b
-taken forward back (negsuc n) b = times back (suc n) b
+unfoldable pub netSteps : (List ℕ → List ℕ) → (List ℕ → List ℕ) → ℤ → List ℕ → List ℕ
+netSteps forward back (pos n) b = times forward n b
+netSteps forward back (negsuc n) b = times back (suc n) b
 
 -- the block after i alpha, then j beta, then k gamma steps
 unfoldable pub jumped : ℤ → ℤ → ℤ → List ℕ → List ℕ
-jumped i j k b = taken gamma backGamma k (taken beta backBeta j (taken alpha backAlpha i b))
+jumped i j k b = netSteps gamma backGamma k (netSteps beta backBeta j (netSteps alpha backAlpha i b))
 
 -- a step byte from 1 to 6
 unfoldable pub isStep : ℕ → Bool

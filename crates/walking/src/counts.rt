@@ -4,7 +4,7 @@ ghost use mathlib.Core.Path.{_≡_};
 ghost use mathlib.Core.Bool.{_&&_};
 ghost use Prim.Native.Nat.{_+_, _≤_};
 ghost use lib.IntN.{natAbs};
-ghost use Rattle.walking.specs.Walking.{step, taken, inRange};
+ghost use Rattle.walking.specs.Walking.{step, netSteps, inRange};
 
 // The size of a count without its sign. The least i32 has no positive fellow, so it is not negated as it is.
 fn magnitude(z: i32) -> u32
@@ -39,7 +39,7 @@ pub fn all_in_range(a: i32, b: i32, c: i32) -> bool
 // That many steps of a kind from 1 to 3, its back steps where the count is negative.
 pub fn take_net(start: [u64; 16], kind: u8, z: i32) -> [u64; 16]
     requires { ⌜ (1 ≤ kind) × (kind ≤ 3) ⌝ }
-    ensures { λ r. ⌜ r ≡ taken (step kind) (step (kind + 3)) z start ⌝ }
+    ensures { λ r. ⌜ r ≡ netSteps (step kind) (step (kind + 3)) z start ⌝ }
 {
     if z < 0 {
         take_many(start, kind + 3, magnitude(z))

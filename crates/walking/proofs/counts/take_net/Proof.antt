@@ -4,7 +4,7 @@ use mir.Syntax.{w32}
 use mir.Val.{toZ, ofZ}
 use mir.Facts.{toZ-ofZ}
 use Rattle.walking.specs.Walking.{step}
-use Rattle.walking.proofs.Sizes.{taken-back, taken-on}
+use Rattle.walking.proofs.Sizes.{netSteps-back, netSteps-on}
 use borrow.Author.Needs.{needs}
 use Rattle.walking.proofs.counts.take_net.Statement.{statement}
 use Rattle.walking.proofs.counts.take_net.Tie as tie
@@ -29,14 +29,14 @@ returns c =
     let start = c .before .before .before in
     let here : toZ w32 (ofZ w32 (start .args .z)) ≡ start .args .z = toZ-ofZ (start .fits .z) in
     c .take-many .ensures ∙ rw (c .before .magnitude .ensures, here)
-    (taken-back (step (start .args .kind)) _ (start .args .z) (start .args .start) (rw here at (c .before .before .if1 .taken)))
+    (netSteps-back (step (start .args .kind)) _ (start .args .z) (start .args .start) (rw here at (c .before .before .if1 .taken)))
 
 returns-2 : tie.Need-returns-2
 returns-2 c =
     let start = c .before .before .before in
     let here : toZ w32 (ofZ w32 (start .args .z)) ≡ start .args .z = toZ-ofZ (start .fits .z) in
     c .take-many2 .ensures ∙ rw (c .before .magnitude2 .ensures, here)
-    (taken-on (step (start .args .kind)) _ (start .args .z) (start .args .start) (rw here at (c .before .before .if1 .left)))
+    (netSteps-on (step (start .args .kind)) _ (start .args .z) (start .args .start) (rw here at (c .before .before .if1 .left)))
 
 pub take-net-spec : {M : Type 1} → statement M
 take-net-spec =
