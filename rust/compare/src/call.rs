@@ -1,287 +1,266 @@
-//! The calls that are compared, with all their arguments.
+//! A call with all its arguments.
 
+use crate::calls::{sealing, SEAL};
+use crate::entry::{Arg, Entry, Kind};
+use crate::library::refusal;
 use crate::prng::Prng;
-use reference::store::Sale;
-use reference::{run_len, seal_under, Start};
+use reference::{run_len, seal_under, Start, TAG_LEN};
 use std::fmt;
+use std::ops::{Index, IndexMut};
 
-/// An entry point with the arguments that are no buffers.
-#[derive(Clone, Copy, Debug, PartialEq, Eq)]
-pub enum Entry {
-    /// Buffers: key, nonce, header, message.
-    Seal { mode: u32, rounds: u32 },
-    /// Buffers: key, nonce, header, parcel. Each start has a call of its own.
-    Open {
-        start: Start,
-        mode: u32,
-        rounds: u32,
-    },
-    /// Buffers: key, nonce, header, parcel.
-    Convert { mode: u32, rounds: u32 },
-    /// Buffers: key, nonce, header, message. The words are lent besides.
-    SealRun { mode: u32, rounds: u32 },
-    /// Buffers: key, nonce, header, parcel. The words are lent besides.
-    OpenRun { mode: u32, rounds: u32 },
-    /// Buffers: start, steps.
-    Walk,
-    /// Buffer: start.
-    Jump { counts: [i32; 3] },
-    /// The store is the output.
-    Format,
-    /// Buffers: key, nonce tail, clock. The store is the output.
-    Take {
-        machine: u32,
-        sale: u32,
-        amount: u32,
-        column: u16,
-        means: u8,
-    },
-    /// Buffer: key. The store is the output.
-    Cancel { machine: u32, sale: u32 },
-    /// Buffers: key, store. The output is the eight bytes of the total.
-    Total,
-    /// Buffer: store. There is no output.
-    Read { machine: u32, sale: u32 },
+/// An argument's value. Words and variables are given by their bytes.
+#[derive(Clone, PartialEq)]
+pub enum Value {
+    Number(i64),
+    Bytes(Vec<u8>),
 }
 
-impl Entry {
-    /// The name of the call.
-    pub fn name(self) -> &'static str {
-        match self {
-            Self::Seal { .. } => "seal",
-            Self::Open {
-                start: Start::New, ..
-            } => "open",
-            Self::Open {
-                start: Start::Old, ..
-            } => "open_old",
-            Self::Convert { .. } => "convert",
-            Self::SealRun { .. } => "seal_run",
-            Self::OpenRun { .. } => "open_run",
-            Self::Walk => "walk",
-            Self::Jump { .. } => "jump",
-            Self::Format => "format",
-            Self::Take { .. } => "take",
-            Self::Cancel { .. } => "cancel",
-            Self::Total => "total",
-            Self::Read { .. } => "read",
-        }
-    }
-
-    /// The mode and the rounds of a call that has them.
-    pub fn settings_mut(&mut self) -> [&mut u32; 2] {
-        match self {
-            Self::Seal { mode, rounds }
-            | Self::Open { mode, rounds, .. }
-            | Self::Convert { mode, rounds }
-            | Self::SealRun { mode, rounds }
-            | Self::OpenRun { mode, rounds } => [mode, rounds],
-            _ => panic!("{self:?} has no mode"),
-        }
+impl From<u32> for Value {
+    fn from(number: u32) -> Self {
+        Self::Number(number.into())
     }
 }
 
-/// A call: an entry point, its input buffers and what its output and its words hold before.
+impl From<i32> for Value {
+    fn from(number: i32) -> Self {
+        Self::Number(number.into())
+    }
+}
+
+impl From<Vec<u8>> for Value {
+    fn from(bytes: Vec<u8>) -> Self {
+        Self::Bytes(bytes)
+    }
+}
+
+impl From<&[u8]> for Value {
+    fn from(bytes: &[u8]) -> Self {
+        Self::Bytes(bytes.into())
+    }
+}
+
+/// A call.
 #[derive(Clone)]
 pub struct Call {
-    pub entry: Entry,
-    pub inputs: Vec<Vec<u8>>,
-    pub output: Vec<u8>,
-    /// None but where the entry point takes them.
-    pub words: Vec<u64>,
+    pub entry: &'static Entry,
+    /// As many as the entry point has arguments.
+    pub values: Vec<Value>,
 }
 
 impl Call {
-    /// A call that lends no words.
-    pub fn new(entry: Entry, inputs: Vec<Vec<u8>>, output: Vec<u8>) -> Self {
-        Self {
-            entry,
-            inputs,
-            output,
-            words: Vec::new(),
-        }
+    /// A call with these values.
+    pub fn new(entry: &'static Entry, values: impl Into<Vec<Value>>) -> Self {
+        let values = values.into();
+        assert_eq!(values.len(), entry.args.len(), "{}", entry.name);
+        Self { entry, values }
     }
 
     /// A seal call of random buffers. Its output is as long as the parcel.
     pub fn seal(prng: &mut Prng, mode: u32, rounds: u32, header_len: usize, len: usize) -> Self {
-        let buffers = [32, 16, header_len, len].map(|len| prng.bytes(len));
-        let entry = Entry::Seal { mode, rounds };
-        Self::new(entry, buffers.into(), pattern(len + 32))
+        let [key, nonce, header, message] =
+            [32, 16, header_len, len].map(|len| Value::Bytes(prng.bytes(len)));
+        let output = pattern(len + TAG_LEN).into();
+        let settings = [mode, rounds].map(Value::from);
+        let buffers = [key, nonce, header, message, output];
+        Self::new(&SEAL, [&settings[..], &buffers].concat())
     }
 
-    /// This call turned into one that opens `parcel` under a start and the same settings.
-    pub fn into_open(self, start: Start, parcel: Vec<u8>, output_len: usize) -> Self {
-        let [mode, rounds] = self.settings();
-        let entry = Entry::Open {
-            start,
-            mode,
-            rounds,
+    /// Another call with the same arguments, as far as this one has them. Its output and its words
+    /// are just enough.
+    pub fn turned(&self, entry: &'static Entry) -> Self {
+        let value = |&arg: &Arg| match (self.place(arg), arg.kind()) {
+            (Some(place), _) => self.values[place].clone(),
+            (_, Kind::Choice(..) | Kind::Count(_) | Kind::Number(_)) => Value::Number(0),
+            _ => Value::Bytes(Vec::new()),
         };
-        self.on_parcel(entry, parcel, output_len)
+        let values: Vec<Value> = entry.args.iter().map(value).collect();
+        Self { entry, values }.fitted()
     }
 
-    /// This call turned into one that converts `parcel` under the same settings.
-    pub fn into_convert(self, parcel: Vec<u8>, output_len: usize) -> Self {
-        let [mode, rounds] = self.settings();
-        self.on_parcel(Entry::Convert { mode, rounds }, parcel, output_len)
+    /// Every call that seals or takes a parcel with the arguments of this seal call.
+    pub fn good_calls(&self) -> Vec<Good> {
+        let [new, old] = [Start::New, Start::Old].map(|start| self.parcel(start));
+        let mut calls = Vec::new();
+        for entry in sealing() {
+            let call = self.turned(entry);
+            if entry.takes(Arg::Message) {
+                calls.push(Good::new(call, 0, &new));
+                continue;
+            }
+            for &(start, number) in entry.parcels {
+                let parcel = if start == Start::New { &new } else { &old };
+                let call = call.clone().with(Arg::Parcel, parcel.clone()).fitted();
+                let written = match call.output().len() {
+                    0 => &[][..],
+                    len if len == self[Arg::Message].len() => &self[Arg::Message],
+                    _ => &new,
+                };
+                calls.push(Good::new(call, number, written));
+            }
+        }
+        calls
     }
 
-    /// Another entry point with the same key, nonce and header.
-    fn on_parcel(mut self, entry: Entry, parcel: Vec<u8>, output_len: usize) -> Self {
-        self.inputs[3] = parcel;
-        Self::new(entry, self.inputs, pattern(output_len))
+    /// A call on the parcel that this seal call has under a start.
+    pub fn on_parcel(&self, entry: &'static Entry, start: Start) -> Self {
+        self.turned(entry)
+            .with(Arg::Parcel, self.parcel(start))
+            .fitted()
     }
 
-    /// This call of seal or open turned into the one that has its masks from a run in `words`.
-    pub fn into_run(mut self, words: Vec<u64>) -> Self {
-        self.entry = match self.entry {
-            Entry::Seal { mode, rounds } => Entry::SealRun { mode, rounds },
-            Entry::Open {
-                start: Start::New,
-                mode,
-                rounds,
-            } => Entry::OpenRun { mode, rounds },
-            _ => panic!("{self} has no run"),
-        };
-        self.words = words;
+    /// This call with other bytes for an argument.
+    pub fn with(mut self, arg: Arg, bytes: Vec<u8>) -> Self {
+        self[arg] = bytes;
         self
     }
 
-    /// The call of seal or open that a call with a run has to equal.
-    pub fn stepping(&self) -> Self {
-        let entry = match self.entry {
-            Entry::SealRun { mode, rounds } => Entry::Seal { mode, rounds },
-            Entry::OpenRun { mode, rounds } => Entry::Open {
-                start: Start::New,
-                mode,
-                rounds,
-            },
-            _ => panic!("{self} has no run"),
-        };
-        Self::new(entry, self.inputs.clone(), self.output.clone())
+    /// This call with output and words that are just enough.
+    pub fn fitted(mut self) -> Self {
+        self.fit();
+        self
     }
 
-    /// Words of the run that this call needs, or would need with its masks from a run.
-    pub fn run_len(&self) -> usize {
-        let tag = match self.entry {
-            Entry::Seal { .. } | Entry::SealRun { .. } => 0,
-            _ => 32,
-        };
-        let message_len = self.inputs[3].len().saturating_sub(tag);
-        run_len(self.inputs[2].len(), message_len)
+    /// Lends output and words that are just enough.
+    pub fn fit(&mut self) {
+        self.lend(Arg::Output, 0);
+        self.lend(Arg::Words, 0);
     }
 
-    /// A walk call.
-    pub fn walk(start: Vec<u8>, steps: Vec<u8>, output_len: usize) -> Self {
-        Self::new(Entry::Walk, vec![start, steps], pattern(output_len))
+    /// Lends so many bytes more than are needed for an argument, or fewer. Says whether that can be.
+    pub fn lend(&mut self, arg: Arg, more: isize) -> bool {
+        if !self.entry.takes(arg) {
+            return false;
+        }
+        let len = self.needed(arg).checked_add_signed(more);
+        if let Some(len) = len {
+            self[arg] = pattern(len);
+        }
+        len.is_some()
     }
 
-    /// A jump call.
-    pub fn jump(start: Vec<u8>, counts: [i32; 3], output_len: usize) -> Self {
-        Self::new(Entry::Jump { counts }, vec![start], pattern(output_len))
-    }
-
-    /// A format call.
-    pub fn format(store: &[u8]) -> Self {
-        Self::new(Entry::Format, Vec::new(), store.to_vec())
-    }
-
-    /// A take call.
-    pub fn take(key: &[u8], store: &[u8], sold: &Sale) -> Self {
-        let entry = Entry::Take {
-            machine: sold.machine,
-            sale: sold.sale,
-            amount: sold.amount,
-            column: sold.column,
-            means: sold.means,
-        };
-        let buffers = [key, &sold.nonce_tail, &sold.clock];
-        let inputs = buffers.map(<[u8]>::to_vec).into();
-        Self::new(entry, inputs, store.to_vec())
-    }
-
-    /// A cancel call.
-    pub fn cancel(key: &[u8], store: &[u8], machine: u32, sale: u32) -> Self {
-        let entry = Entry::Cancel { machine, sale };
-        Self::new(entry, vec![key.to_vec()], store.to_vec())
-    }
-
-    /// A total call.
-    pub fn total(key: &[u8], store: &[u8]) -> Self {
-        let inputs = vec![key.to_vec(), store.to_vec()];
-        Self::new(Entry::Total, inputs, pattern(8))
-    }
-
-    /// A read call.
-    pub fn read(store: &[u8], machine: u32, sale: u32) -> Self {
-        let entry = Entry::Read { machine, sale };
-        Self::new(entry, vec![store.to_vec()], Vec::new())
-    }
-
-    /// The input buffers as they are lent.
-    pub fn slices(&self) -> Vec<&[u8]> {
-        self.inputs.iter().map(Vec::as_slice).collect()
-    }
-
-    /// The store of a call that has one.
-    pub fn store_mut(&mut self) -> &mut Vec<u8> {
-        match self.entry {
-            Entry::Format | Entry::Take { .. } | Entry::Cancel { .. } => &mut self.output,
-            Entry::Total => &mut self.inputs[1],
-            Entry::Read { .. } => &mut self.inputs[0],
-            _ => panic!("{self} has no store"),
+    /// The output of a call that has one.
+    pub fn output(&self) -> &[u8] {
+        if self.entry.takes(Arg::Output) {
+            &self[Arg::Output]
+        } else {
+            &[]
         }
     }
 
-    /// This call on a store of other bytes.
-    pub fn on(&self, store: &[u8]) -> Self {
-        let mut call = self.clone();
-        *call.store_mut() = store.to_vec();
-        call
-    }
-
-    /// The mode and the rounds of a call that has them.
-    fn settings(&self) -> [u32; 2] {
-        let mut entry = self.entry;
-        entry.settings_mut().map(|number| *number)
-    }
-
-    /// The bytes that success writes in a call that has a message or a parcel.
-    pub fn written(&self) -> usize {
-        let len = self.inputs[3].len();
-        match self.entry {
-            Entry::Seal { .. } | Entry::SealRun { .. } => len + 32,
-            Entry::Open { .. } | Entry::OpenRun { .. } => len - 32,
-            Entry::Convert { .. } => len,
-            _ => panic!("{self} has no message"),
+    /// The bytes that the output or the words need.
+    pub fn needed(&self, arg: Arg) -> usize {
+        match arg {
+            Arg::Words => 8 * self.run_len(),
+            _ => (self.entry.written)(self.input().map_or(0, |input| self[input].len())),
         }
+    }
+
+    /// Words of the run that this call needs.
+    fn run_len(&self) -> usize {
+        let message_len = match self.input() {
+            Some(Arg::Parcel) => self[Arg::Parcel].len().saturating_sub(TAG_LEN),
+            _ => self[Arg::Message].len(),
+        };
+        run_len(self[Arg::Header].len(), message_len)
+    }
+
+    /// The argument that is a message or a parcel.
+    pub fn input(&self) -> Option<Arg> {
+        [Arg::Message, Arg::Parcel]
+            .into_iter()
+            .find(|&arg| self.entry.takes(arg))
+    }
+
+    fn place(&self, arg: Arg) -> Option<usize> {
+        self.entry.args.iter().position(|&other| other == arg)
+    }
+
+    /// The value of a number that the call has.
+    pub fn number(&self, arg: Arg) -> u32 {
+        match self.place(arg).map(|place| &self.values[place]) {
+            Some(&Value::Number(number)) => number as u32,
+            _ => panic!("{self} has no number {arg:?}"),
+        }
+    }
+
+    /// Another value for such a number.
+    pub fn set(&mut self, arg: Arg, number: impl Into<Value>) {
+        let place = self.place(arg).expect("a number of the call");
+        self.values[place] = number.into();
     }
 
     /// What the second implementation seals under a start with the buffers of a seal call, however
     /// short its output is; zeros where another ground refuses it.
     pub fn parcel(&self, start: Start) -> Vec<u8> {
-        let [mode, rounds] = self.settings();
-        let mut parcel = vec![0; self.inputs[3].len() + 32];
-        let inputs = std::array::from_fn(|i| &*self.inputs[i]);
+        let [mode, rounds] = [Arg::Mode, Arg::Rounds].map(|arg| self.number(arg));
+        let mut parcel = vec![0; self[Arg::Message].len() + TAG_LEN];
+        let inputs = [Arg::Key, Arg::Nonce, Arg::Header, Arg::Message].map(|arg| &*self[arg]);
         seal_under(start, mode, rounds, inputs, &mut parcel).ok();
         parcel
     }
 }
 
-impl fmt::Display for Call {
-    fn fmt(&self, f: &mut fmt::Formatter<'_>) -> fmt::Result {
-        let lengths: Vec<usize> = self.inputs.iter().map(Vec::len).collect();
-        write!(
-            f,
-            "{:?}, inputs of {lengths:?}, output of {} and {} words",
-            self.entry,
-            self.output.len(),
-            self.words.len()
-        )
+/// A call of which no ground of refusal holds but its parcel's start, and what comes of it.
+pub struct Good {
+    pub call: Call,
+    pub answer: u64,
+    /// What the output then begins with.
+    pub written: Vec<u8>,
+}
+
+impl Good {
+    fn new(call: Call, number: u32, written: &[u8]) -> Self {
+        let (answer, written) = match number {
+            0 => (written.len() as u64, written.to_vec()),
+            _ => (refusal(number, 0), Vec::new()),
+        };
+        Self {
+            call,
+            answer,
+            written,
+        }
+    }
+
+    /// It is not refused with 9.
+    pub fn opens(&self) -> bool {
+        self.answer != refusal(9, 0)
     }
 }
 
-/// What an output holds before a call that does not read it: never the same byte twice in a row.
+impl Index<Arg> for Call {
+    type Output = Vec<u8>;
+
+    fn index(&self, arg: Arg) -> &Vec<u8> {
+        match self.place(arg).map(|place| &self.values[place]) {
+            Some(Value::Bytes(bytes)) => bytes,
+            _ => panic!("{self} has no buffer {arg:?}"),
+        }
+    }
+}
+
+impl IndexMut<Arg> for Call {
+    fn index_mut(&mut self, arg: Arg) -> &mut Vec<u8> {
+        match self.place(arg).map(|place| &mut self.values[place]) {
+            Some(Value::Bytes(bytes)) => bytes,
+            _ => panic!("no buffer {arg:?}"),
+        }
+    }
+}
+
+impl fmt::Display for Call {
+    fn fmt(&self, f: &mut fmt::Formatter<'_>) -> fmt::Result {
+        write!(f, "{}", self.entry.name)?;
+        for (arg, value) in self.entry.args.iter().zip(&self.values) {
+            match value {
+                Value::Number(number) => write!(f, ", {arg:?} {number}")?,
+                Value::Bytes(bytes) => write!(f, ", {arg:?} of {}", bytes.len())?,
+            }
+        }
+        Ok(())
+    }
+}
+
+/// What a buffer holds before a call that does not read it: never the same byte twice in a row.
 pub fn pattern(len: usize) -> Vec<u8> {
     (0..len).map(|i| (i * 37 + 11) as u8).collect()
 }

@@ -1,8 +1,11 @@
 //! A case of a file: a call line and its answer line.
 
-use crate::pages::{Edge, Input, Output};
+use crate::call::{Call, Value};
+use crate::entry::{Arg, Entry, Kind};
+use crate::library::Library;
+use crate::pages::{self, Edge};
 use crate::text::{hex, number, Bytes};
-use std::str::{FromStr, Split};
+use std::str::Split;
 
 /// The cases of a file by the number of their call line, or what is wrong with the file.
 pub fn cases(text: &str) -> Result<Vec<(usize, &str, &str)>, String> {
@@ -19,145 +22,140 @@ pub fn cases(text: &str) -> Result<Vec<(usize, &str, &str)>, String> {
         .collect())
 }
 
-/// The fields of a case, taken one after the other from the call line and then from the answer's.
-pub struct Case<'a> {
-    fields: Split<'a, char>,
-    answer: Split<'a, char>,
+/// A call line, by the kinds of its call's arguments.
+pub struct Case {
+    entry: &'static Entry,
+    fields: Vec<Field>,
     edge: Edge,
     /// Empty buffers are null pointers.
-    pub null: bool,
-    differences: Vec<String>,
+    null: bool,
 }
 
-/// A buffer that is lent to be written, and what it holds before.
-pub struct Lent {
-    before: Bytes,
-    pub now: Output,
+/// An argument as it is written.
+enum Field {
+    Number(i64),
+    /// A number that the call may change.
+    Variable(u64),
+    Bytes(Bytes),
 }
 
-impl<'a> Case<'a> {
-    /// The case of the `fields` behind a call's word, and of an answer line.
-    pub fn new(fields: &'a str, answer: &'a str) -> Result<Self, String> {
-        let mut case = Self {
-            fields: fields.split(' '),
-            answer: answer.split(' '),
-            edge: Edge::Last,
-            null: false,
-            differences: Vec::new(),
+impl Field {
+    fn parse(arg: Arg, text: &str) -> Result<Self, String> {
+        match arg.kind() {
+            Kind::Choice(..) => number::<u32>(text).map(|number| Self::Number(number.into())),
+            Kind::Number(max) => match number::<u32>(text)? {
+                number if number <= max => Ok(Self::Number(number.into())),
+                number => Err(format!("{number} where the call takes {max} at most")),
+            },
+            Kind::Count(_) => {
+                let (sign, digits) = text.strip_prefix('-').map_or((1, text), |rest| (-1, rest));
+                let count = number::<u32>(digits)?;
+                let count = i32::try_from(sign * i64::from(count));
+                let count = count.map_err(|_| format!("'{text}' does not fit"))?;
+                Ok(Self::Number(count.into()))
+            }
+            Kind::Variable => number(text).map(Self::Variable),
+            _ => {
+                let bytes = Bytes::parse(text)?;
+                let len = bytes.bytes.len();
+                if arg.can_be(len) {
+                    return Ok(Self::Bytes(bytes));
+                }
+                Err(format!("{len} bytes can't be the argument {arg:?}"))
+            }
+        }
+    }
+
+    fn value(&self) -> Value {
+        match self {
+            Self::Number(number) => Value::Number(*number),
+            Self::Variable(number) => Value::Bytes(number.to_ne_bytes().into()),
+            Self::Bytes(bytes) => Value::Bytes(bytes.bytes.clone()),
+        }
+    }
+
+    /// What differs where the argument is `now` after the call, by the answer's `text`.
+    fn differs(&self, text: &str, now: &[u8]) -> Result<Option<String>, String> {
+        let wanted = match self {
+            Self::Number(_) => return Err("a number that the call writes".into()),
+            Self::Variable(_) => {
+                let wanted = number::<u64>(text)?;
+                let got = u64::from_ne_bytes(now.try_into().expect("eight bytes"));
+                let difference = || format!("the variable to be {wanted}, and is {got}");
+                return Ok((got != wanted).then(difference));
+            }
+            Self::Bytes(before) => before.after(text)?,
         };
-        (case.edge, case.null) = match case.number::<u32>()? {
+        let differing = wanted.iter().zip(now).position(|(a, b)| a != b);
+        Ok(differing.map(|at| {
+            let (wanted, got) = (hex(&wanted[at..]), hex(&now[at..]));
+            format!("from byte {at} of {} wanted {wanted}, got {got}", now.len())
+        }))
+    }
+}
+
+impl Case {
+    /// The case of the `fields` behind a call's word.
+    pub fn new(entry: &'static Entry, fields: &str) -> Result<Self, String> {
+        let mut texts = fields.split(' ');
+        let (edge, null) = match number::<u32>(next(&mut texts)?)? {
             0 => (Edge::Last, false),
             1 => (Edge::First, false),
             2 => (Edge::Last, true),
             edge => return Err(format!("no edge {edge}")),
         };
-        Ok(case)
+        let field = |&arg: &Arg| Field::parse(arg, next(&mut texts)?);
+        let fields = entry.args.iter().map(field).collect::<Result<_, _>>()?;
+        none_left(texts)?;
+        Ok(Self {
+            entry,
+            fields,
+            edge,
+            null,
+        })
     }
 
-    fn field(&mut self) -> Result<&'a str, String> {
-        self.fields
-            .next()
-            .ok_or_else(|| "a field is missing".into())
-    }
-
-    fn answer_field(&mut self) -> Result<&'a str, String> {
-        let missing = || "a field of the answer is missing".into();
-        self.answer.next().ok_or_else(missing)
-    }
-
-    /// The call's next field, a number.
-    pub fn number<T: FromStr>(&mut self) -> Result<T, String> {
-        number(self.field()?)
-    }
-
-    /// The call's next field, a buffer that the call reads.
-    pub fn input(&mut self) -> Result<Input, String> {
-        let bytes = Bytes::parse(self.field()?)?.bytes;
-        Ok(Input::new(&bytes, self.edge))
-    }
-
-    /// The call's next field, a buffer of `len` bytes that the call reads.
-    pub fn input_of(&mut self, len: usize) -> Result<Input, String> {
-        let input = self.input()?;
-        if input.len() == len {
-            return Ok(input);
+    /// Makes the call and holds it against the answer line: the number and the value, and then what
+    /// the call writes.
+    pub fn replay(&self, library: Library, answer: &str) -> Result<(), String> {
+        let values: Vec<Value> = self.fields.iter().map(Field::value).collect();
+        let mut lent = pages::lent(&Call::new(self.entry, values), self.edge);
+        let got = lent.call(library, self.null);
+        let now = lent.now();
+        let mut texts = answer.split(' ');
+        let mut differences = Vec::new();
+        let (n, v): (u32, u32) = (number(next(&mut texts)?)?, number(next(&mut texts)?)?);
+        let (m, w) = ((got >> 32) as u32, got as u32);
+        if (n, v) != (m, w) {
+            differences.push(format!("wanted {n} {v}, got {m} {w}"));
         }
-        Err(format!("{} bytes where the call takes {len}", input.len()))
-    }
-
-    /// The call's next field, a number that the call may change.
-    pub fn variable(&mut self) -> Result<Output, String> {
-        let number = self.number::<u64>()?;
-        Ok(Output::new(&number.to_ne_bytes(), self.edge))
-    }
-
-    /// The call's next field, a buffer that the call writes.
-    pub fn lent(&mut self) -> Result<Lent, String> {
-        let before = Bytes::parse(self.field()?)?;
-        let now = Output::new(&before.bytes, self.edge);
-        Ok(Lent { before, now })
-    }
-
-    /// The call's next field, a buffer of words that the call writes, given as their bytes.
-    pub fn lent_words(&mut self) -> Result<Lent, String> {
-        let lent = self.lent()?;
-        if lent.now.len() % 8 == 0 {
-            return Ok(lent);
+        for (arg, field) in self.entry.args.iter().zip(&self.fields) {
+            if self.entry.writes.contains(arg) {
+                differences.extend(field.differs(next(&mut texts)?, &now[*arg])?);
+            }
         }
-        Err(format!("{} bytes are no words", lent.now.len()))
-    }
-
-    /// Holds a call's answer against the next two fields of the answer line.
-    pub fn answers(&mut self, answer: u64) -> Result<(), String> {
-        let wanted: (u32, u32) = (number(self.answer_field()?)?, number(self.answer_field()?)?);
-        let got = ((answer >> 32) as u32, answer as u32);
-        if got != wanted {
-            let ((n, v), (m, w)) = (wanted, got);
-            self.differences
-                .push(format!("wanted {n} {v}, got {m} {w}"));
-        }
-        Ok(())
-    }
-
-    /// Holds a buffer after the call against the next field of the answer line.
-    pub fn holds(&mut self, lent: &Lent) -> Result<(), String> {
-        let wanted = lent.before.after(self.answer_field()?)?;
-        let differing = wanted.iter().zip(&*lent.now).position(|(a, b)| a != b);
-        if let Some(at) = differing {
-            let (wanted, got) = (hex(&wanted[at..]), hex(&lent.now[at..]));
-            let place = format!("from byte {at} of {}", lent.now.len());
-            self.differences
-                .push(format!("{place} wanted {wanted}, got {got}"));
-        }
-        Ok(())
-    }
-
-    /// Holds a variable after the call against the next field of the answer line.
-    pub fn variable_holds(&mut self, variable: &Output) -> Result<(), String> {
-        let wanted = number::<u64>(self.answer_field()?)?;
-        let got = u64::from_ne_bytes(variable[..].try_into().expect("eight bytes"));
-        if got != wanted {
-            let difference = format!("the variable to be {wanted}, and is {got}");
-            self.differences.push(difference);
-        }
-        Ok(())
-    }
-
-    /// What differs, once every field has been taken.
-    pub fn finish(mut self) -> Result<(), String> {
-        if self.fields.next().is_some() || self.answer.next().is_some() {
-            return Err("a field too many".into());
-        }
-        if self.differences.is_empty() {
+        none_left(texts)?;
+        if differences.is_empty() {
             return Ok(());
         }
-        Err(self.differences.join("; "))
+        Err(differences.join("; "))
     }
+}
+
+fn next<'a>(fields: &mut Split<'a, char>) -> Result<&'a str, String> {
+    fields.next().ok_or_else(|| "a field is missing".into())
+}
+
+fn none_left(mut fields: Split<char>) -> Result<(), String> {
+    fields
+        .next()
+        .map_or(Ok(()), |_| Err("a field too many".into()))
 }
 
 #[cfg(test)]
 mod tests {
     use super::*;
+    use crate::calls::SEAL;
 
     #[test]
     fn lines_come_in_pairs() {
@@ -169,15 +167,24 @@ mod tests {
         }
     }
 
-    /// Replays `number input lent`, a call that writes the number to all of the lent bytes.
+    fn replay(entry: &'static Entry, fields: &str, answer: &str) -> Result<(), String> {
+        Case::new(entry, fields)?.replay(Library::Reference, answer)
+    }
+
+    /// `number input lent`, a call that writes the number to all of the lent bytes.
+    const FILL: Entry = Entry {
+        args: &[Arg::Means, Arg::Header, Arg::Output],
+        writes: &[Arg::Output],
+        reference: |a| {
+            let (fill, input) = (a.next(), a.next::<&[u8]>());
+            a.next::<&mut [u8]>().fill(fill);
+            Err((7, input.len() as u32))
+        },
+        ..SEAL
+    };
+
     fn replayed(fields: &str, answer: &str) -> Result<(), String> {
-        let mut case = Case::new(fields, answer)?;
-        let (fill, input) = (case.number()?, case.input()?);
-        let mut lent = case.lent()?;
-        lent.now.fill(fill);
-        case.answers(7 << 32 | input.len() as u64)?;
-        case.holds(&lent)?;
-        case.finish()
+        replay(&FILL, fields, answer)
     }
 
     #[test]
@@ -201,54 +208,66 @@ mod tests {
         assert_eq!(differs("0 1 050605"), format!("wanted 0 1, got 7 1; {at}"));
     }
 
-    /// Replays `words`, a call that adds one to each word.
-    fn counted(fields: &str, answer: &str) -> Result<(), String> {
-        let mut case = Case::new(fields, answer)?;
-        let mut lent = case.lent_words()?;
-        lent.now.words().iter_mut().for_each(|word| *word += 1);
-        case.holds(&lent)?;
-        case.finish()
-    }
+    /// `words`, a call that adds one to each word.
+    const ADD: Entry = Entry {
+        args: &[Arg::Words],
+        writes: &[Arg::Words],
+        reference: |a| {
+            let words: &mut [u64] = a.next();
+            words.iter_mut().for_each(|word| *word += 1);
+            Ok(0)
+        },
+        ..SEAL
+    };
 
     #[test]
     fn words_are_their_bytes() {
         for edge in [0, 1, 2] {
-            let agrees = |fields: &str, answer| counted(&format!("{edge} {fields}"), answer);
+            let agrees = |fields: &str, answer| replay(&ADD, &format!("{edge} {fields}"), answer);
             let two = (
                 "ff00000000000000fffffffeffffffff",
-                "0001000000000000000000ffffffffff",
+                "0 0 0001000000000000000000ffffffffff",
             );
             assert_eq!(agrees(two.0, two.1), Ok(()));
-            assert_eq!(agrees("*16:00", "@0:01@8:01"), Ok(()));
-            assert_eq!(agrees("-", "-"), Ok(()));
+            assert_eq!(agrees("*16:00", "0 0 @0:01@8:01"), Ok(()));
+            assert_eq!(agrees("-", "0 0 -"), Ok(()));
         }
-        let odd = counted("0 *12:00", "=");
-        assert_eq!(odd, Err("12 bytes are no words".into()));
+        let odd = replay(&ADD, "0 *12:00", "0 0 =");
+        assert_eq!(odd, Err("12 bytes can't be the argument Words".into()));
     }
 
-    /// Replays `variable input`, a call that adds the length of the input, which has to be 2.
-    fn added(fields: &str, answer: &str) -> Result<(), String> {
-        let mut case = Case::new(fields, answer)?;
-        let mut variable = case.variable()?;
-        let added = u64::from_ne_bytes(variable[..].try_into().expect("eight bytes"))
-            + case.input_of(2)?.len() as u64;
-        variable.copy_from_slice(&added.to_ne_bytes());
-        case.variable_holds(&variable)?;
-        case.finish()
-    }
+    /// `variable count tail`, a call that adds the count.
+    const COUNT: Entry = Entry {
+        args: &[Arg::Total, Arg::Alpha, Arg::Tail],
+        writes: &[Arg::Total],
+        reference: |a| {
+            let (total, count): (&mut [u64], i32) = (a.next(), a.next());
+            total[0] = total[0].wrapping_add_signed(count.into());
+            Ok(0)
+        },
+        ..SEAL
+    };
 
     #[test]
-    fn variables() {
+    fn variables_and_counts() {
         for edge in [0, 1, 2] {
+            let added = |fields: &str, answer| replay(&COUNT, &format!("{edge} {fields}"), answer);
+            assert_eq!(added("4294967295 2 *8:00", "0 0 4294967297"), Ok(()));
             assert_eq!(
-                added(&format!("{edge} 4294967295 0000"), "4294967297"),
+                added("5 -2147483648 *8:00", "0 0 18446744071562067973"),
                 Ok(())
             );
-        }
-        let differs = "the variable to be 8, and is 7";
-        assert_eq!(added("0 5 0000", "8"), Err(differs.into()));
-        for (fields, answer) in [("0 5 00", "7"), ("0 5 000000", "7"), ("0 5 0000", "07x")] {
-            assert!(added(fields, answer).is_err(), "{fields} / {answer}");
+            let differs = "the variable to be 8, and is 7";
+            assert_eq!(added("5 2 *8:00", "0 0 8"), Err(differs.into()));
+            for fields in [
+                "5 2 *7:00",
+                "5 2 *9:00",
+                "5 --2 *8:00",
+                "5 2147483648 *8:00",
+            ] {
+                assert!(added(fields, "0 0 7").is_err(), "{fields}");
+            }
+            assert!(added("5 2 *8:00", "0 0 07x").is_err());
         }
     }
 

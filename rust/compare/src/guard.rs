@@ -1,15 +1,16 @@
 //! Every lent buffer at the edge of a page that can't be touched.
 
-use crate::call::Call;
+use crate::call::{Call, Good};
+use crate::calls::{self, jump, walk};
 use crate::child;
-use crate::grounds::{ENTRIES, STORE_ENTRIES};
-use crate::library::{expected, Library};
-use crate::pages::{Edge, Input, Output};
+use crate::entry::Arg::{Output, Store, Words};
+use crate::library::Library;
+use crate::pages::{self, Edge};
 use crate::prng::Prng;
 use crate::report::Tally;
 use crate::stores::sound::Sound;
 use crate::stores::ways::WAYS;
-use reference::{settings, Start};
+use reference::settings;
 use std::collections::BTreeSet;
 
 /// Cells and sales of stores: small ones, ones of a page and a cell more, and the longest.
@@ -29,49 +30,41 @@ pub fn run(library: &str) -> Tally {
 }
 
 /// The child: makes every call at both edges. Of each entry point some have to succeed, since a
-/// refused call need not touch its buffers. Some of convert and of open_run have to fail by what
-/// they have read.
-pub fn child(library: &Library) {
+/// refused call need not touch its buffers, and some to fail by what they have read.
+pub fn child(library: Library) {
     let mut met = BTreeSet::new();
     for call in calls() {
         for edge in [Edge::First, Edge::Last] {
             child::call(format_args!("{call}, {edge:?} in its pages"));
             let answer = agrees(library, &call, edge);
             if let Ok(answer) = answer {
-                met.insert((call.entry.name(), answer >> 32));
+                met.insert((call.entry.name, (answer >> 32) as u32));
             }
             child::outcome(answer.map(drop));
         }
     }
-    let entries = ENTRIES.iter().chain(&STORE_ENTRIES);
-    let succeeded = entries.map(|(name, _)| (*name, 0));
-    let refused = [("convert", 9), ("convert", 17), ("open_run", 9)];
-    for (name, number) in succeeded.chain(refused) {
-        child::call(name);
-        let none = || format!("no call met refusal {number}, 0 for none");
-        child::outcome(met.get(&(name, number)).map(drop).ok_or_else(none));
+    for entry in calls::ALL {
+        for number in [0, 9, 17]
+            .into_iter()
+            .filter(|&n| n == 0 || entry.refuses(n))
+        {
+            child::call(entry.name);
+            let none = || format!("no call met refusal {number}, 0 for none");
+            child::outcome(met.get(&(entry.name, number)).map(drop).ok_or_else(none));
+        }
     }
     child::done();
 }
 
-/// The answer, where it, the output and the words are the second implementation's.
-fn agrees(library: &Library, call: &Call, edge: Edge) -> Result<u64, String> {
-    let place = |bytes: &Vec<u8>| Input::new(bytes, edge);
-    let inputs: Vec<Input> = call.inputs.iter().map(place).collect();
-    let inputs: Vec<&[u8]> = inputs.iter().map(|input| &**input).collect();
-    let mut wanted = call.output.clone();
-    let mut output = Output::new(&wanted, edge);
-    let mut wanted_words = call.words.clone();
-    let bytes = wanted_words.iter().flat_map(|word| word.to_le_bytes());
-    let mut words = Output::new(&bytes.collect::<Vec<u8>>(), edge);
-    let words = words.words();
-    let answer = library.call_with_words(call.entry, &inputs, &mut output, words, false);
-    let wanted_answer = expected(call.entry, &inputs, &mut wanted, &mut wanted_words);
-    let same = output[..] == wanted && words[..] == wanted_words;
-    if same && answer == wanted_answer {
+/// The answer, where it and all arguments afterwards are the second implementation's.
+fn agrees(library: Library, call: &Call, edge: Edge) -> Result<u64, String> {
+    let mut lent = pages::lent(call, edge);
+    let answer = lent.call(library, false);
+    let (wanted, after) = Library::Reference.call(call);
+    if answer == wanted && lent.now().values == after.values {
         Ok(answer)
     } else {
-        Err(format!("{answer:#x}, expected {wanted_answer:#x}"))
+        Err(format!("{answer:#x}, expected {wanted:#x}"))
     }
 }
 
@@ -84,7 +77,7 @@ fn calls() -> Vec<Call> {
         ] {
             for header_len in [0, 1, 127, 128, 129, 4096, 4097] {
                 let seal = Call::seal(&mut prng, mode, rounds, header_len, len);
-                sealing(&mut prng, &mut calls, seal);
+                sealing(&mut calls, &seal);
             }
         }
     }
@@ -96,47 +89,26 @@ fn calls() -> Vec<Call> {
     calls
 }
 
-/// A seal call, and under each start an open and a conversion of the parcel; each of them also with
-/// too short an output, and the last two of a damaged parcel. Seal and open by a run too.
-fn sealing(prng: &mut Prng, calls: &mut Vec<Call>, seal: Call) {
-    let len = seal.inputs[3].len();
-    short_output(calls, seal.clone());
-    runs(prng, calls, &seal);
-    for start in [Start::New, Start::Old] {
-        let parcel = seal.parcel(start);
-        let open = seal.clone().into_open(start, parcel.clone(), len);
-        let convert = seal.clone().into_convert(parcel, len + 32);
-        if start == Start::New {
-            runs(prng, calls, &open);
-        }
-        for mut call in [open, convert] {
-            short_output(calls, call.clone());
-            call.inputs[3][len / 2] ^= 1;
-            calls.push(call);
-        }
-    }
-}
-
-/// A seal or open call by a run: no words, one too few, just enough and more; then, in just enough,
-/// with too short an output and of a damaged input.
-fn runs(prng: &mut Prng, calls: &mut Vec<Call>, call: &Call) {
-    let len = call.run_len();
-    for count in [0, len - 1, len + 3] {
-        calls.push(call.clone().into_run(prng.words(count)));
-    }
-    let mut enough = call.clone().into_run(prng.words(len));
-    short_output(calls, enough.clone());
-    if let Some(byte) = enough.inputs[3].last_mut() {
-        *byte ^= 1;
-        calls.push(enough);
-    }
-}
-
-/// A call as it is, and one whose output is a byte shorter.
-fn short_output(calls: &mut Vec<Call>, mut call: Call) {
-    calls.push(call.clone());
-    if call.output.pop().is_some() {
-        calls.push(call);
+/// Every call on a message and on its parcels, with just enough lent; then with an output that is too
+/// short, with no words, with one too few and with more, and of a damaged input.
+fn sealing(calls: &mut Vec<Call>, seal: &Call) {
+    for Good { call: good, .. } in seal.good_calls().into_iter().filter(Good::opens) {
+        let mut push = |change: &dyn Fn(&mut Call) -> bool| {
+            let mut call = good.clone();
+            if change(&mut call) {
+                calls.push(call);
+            }
+        };
+        push(&|_| true);
+        push(&|call| call.lend(Output, -1));
+        push(&|call| call.lend(Words, -8));
+        push(&|call| call.lend(Words, 24));
+        push(&|call| good.entry.takes(Words) && call.lend(Words, -(call.needed(Words) as isize)));
+        push(&|call| {
+            let input = call.input().expect("a message or a parcel");
+            let middle = call[input].len() / 2;
+            call[input].get_mut(middle).map(|byte| *byte ^= 1).is_some()
+        });
     }
 }
 
@@ -145,12 +117,12 @@ fn stores(prng: &mut Prng, calls: &mut Vec<Call>, sound: &Sound) {
     let good = sound.calls(prng);
     for call in &good {
         for len in [0, 1, 2, 63, 64, 65, 127, sound.bytes.len() - 1] {
-            calls.push(call.on(&sound.bytes[..len]));
+            calls.push(call.clone().with(Store, sound.bytes[..len].to_vec()));
         }
         for (_, damage) in WAYS {
             let mut damaged = sound.clone();
             damage(prng, &mut damaged);
-            calls.push(call.on(&damaged.bytes));
+            calls.push(call.clone().with(Store, damaged.bytes));
         }
     }
     calls.extend(good);
@@ -158,15 +130,20 @@ fn stores(prng: &mut Prng, calls: &mut Vec<Call>, sound: &Sound) {
 
 fn walking(prng: &mut Prng, calls: &mut Vec<Call>) {
     for len in [0, 1, 2, 100, 4096, 4097] {
-        for output_len in [0, 127, 128, 129] {
+        for more in [-128, -1, 0, 1] {
             let steps = prng.steps(len);
-            calls.push(Call::walk(prng.bytes(128), steps, output_len));
-            calls.push(Call::jump(prng.bytes(128), [3, -2, -1], output_len));
+            for mut call in [
+                walk(&prng.bytes(128), &steps),
+                jump(&prng.bytes(128), [3, -2, -1]),
+            ] {
+                call.lend(Output, more);
+                calls.push(call);
+            }
         }
     }
     for start_len in [0, 1, 127, 129] {
         let start = prng.bytes(start_len);
-        calls.push(Call::walk(start.clone(), vec![1, 2], 128));
-        calls.push(Call::jump(start, [1; 3], 128));
+        calls.push(walk(&start, &[1, 2]));
+        calls.push(jump(&start, [1; 3]));
     }
 }

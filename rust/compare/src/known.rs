@@ -1,12 +1,15 @@
 //! Known answers, and lengths at their limits.
 
-use crate::call::{pattern, Entry};
+use crate::call::{pattern, Call, Value};
+use crate::calls::{jump, walk, CONVERT, OPEN, OPEN_OLD, OPEN_RUN, SEAL, SEAL_RUN};
+use crate::entry::Arg::{Output, Words};
+use crate::entry::Entry;
 use crate::library::{refusal, Library};
 use crate::report::{Check, Tally};
-use reference::{Start, MRO, OPP, ROUNDS};
+use reference::{MRO, OPP, ROUNDS};
 
 /// Every line that can be seen through the calls.
-pub fn run(library: &Library) -> Tally {
+pub fn run(library: Library) -> Tally {
     let mut check = Check::new(library);
     steps(&mut check);
     zeros(&mut check);
@@ -47,12 +50,8 @@ fn steps(check: &mut Check) {
         ),
     ];
     for (name, step, start, words) in lines {
-        let mut output = pattern(128);
-        let start = block(&[start]);
-        let answer = check
-            .library
-            .call(Entry::Walk, &[&start, &[step]], &mut output, false);
-        let passed = answer == 128 && output == block(words);
+        let (answer, after) = check.library.call(&walk(&block(&[start]), &[step]));
+        let passed = answer == 128 && after[Output] == block(words);
         check.record(passed, || format!("{name}: {answer:#x}"));
     }
 }
@@ -65,16 +64,15 @@ const ZEROS: [(&str, u32, usize); 3] = [("P10", OPP, 0), ("P10", MRO, 0), ("P11"
 fn zeros(check: &mut Check) {
     for (name, mode, len) in ZEROS {
         for &rounds in ROUNDS {
-            for (start, wanted) in [(Start::Old, len as u64), (Start::New, refusal(9, 0))] {
-                let mut message = pattern(len);
-                let inputs: [&[u8]; 4] = [&[0; 32], &[0; 16], &[], &vec![0; len + 32]];
-                let entry = Entry::Open {
-                    start,
-                    mode,
-                    rounds,
-                };
-                let answer = check.library.call(entry, &inputs, &mut message, false);
-                let passed = answer == wanted && message == vec![0; len];
+            for (open, wanted) in [(&OPEN_OLD, len as u64), (&OPEN, refusal(9, 0))] {
+                let call = sealing(
+                    open,
+                    [mode, rounds],
+                    [&[0; 32], &[], &vec![0; len + 32]],
+                    len,
+                );
+                let (answer, after) = check.library.call(&call);
+                let passed = answer == wanted && after[Output] == vec![0; len];
                 check.record(passed, || format!("{name}: {answer:#x}"));
             }
         }
@@ -90,12 +88,12 @@ fn conversions(check: &mut Check) {
     for ((name, mode, len), rounds) in lines {
         let library = check.library;
         let call = |entry, input: &[u8]| {
-            let mut output = pattern(len + 32);
-            let inputs: [&[u8]; 4] = [&[0; 32], &[0; 16], &[], input];
-            (library.call(entry, &inputs, &mut output, false), output)
+            let call = sealing(entry, [mode, rounds], [&[0; 32], &[], input], len + 32);
+            let (answer, mut after) = library.call(&call);
+            (answer, std::mem::take(&mut after[Output]))
         };
         let old = vec![0; len + 32];
-        let (_, new) = call(Entry::Seal { mode, rounds }, &old[..len]);
+        let (_, new) = call(&SEAL, &old[..len]);
         let mut neither = new.clone();
         neither[len] ^= 1;
         for (parcel, wanted, output) in [
@@ -103,7 +101,7 @@ fn conversions(check: &mut Check) {
             (&new, refusal(17, 0), &pattern(len + 32)),
             (&neither, refusal(9, 0), &pattern(len + 32)),
         ] {
-            let (answer, found) = call(Entry::Convert { mode, rounds }, parcel);
+            let (answer, found) = call(&CONVERT, parcel);
             let passed = answer == wanted && found == *output;
             check.record(passed, || format!("{name}, converted: {answer:#x}"));
         }
@@ -130,27 +128,26 @@ fn sealing_limits(check: &mut Check) {
     ];
     for mode in [OPP, MRO] {
         for (name, rounds, key, header, message, output, wanted) in lines {
-            let buffers = [key, 16, header, message].map(|len| vec![7; len]);
-            let inputs: Vec<&[u8]> = buffers.iter().map(Vec::as_slice).collect();
-            let entry = Entry::Seal { mode, rounds };
-            answers(check, name, entry, &inputs, &mut pattern(output), wanted);
+            let [key, header, message] = [key, header, message].map(|len| vec![7; len]);
+            let inputs = [&key[..], &header, &message];
+            answers(
+                check,
+                name,
+                &sealing(&SEAL, [mode, rounds], inputs, output),
+                wanted,
+            );
         }
         // Zero key and nonce, so under the old start a tag of zeros opens as the empty message.
-        for (name, start, parcel, wanted) in [
-            ("a parcel of 31", Start::New, vec![0; 31], refusal(8, 0)),
-            ("a parcel of 31", Start::Old, vec![0; 31], refusal(8, 0)),
-            ("a tag of zeros", Start::New, vec![0; 32], refusal(9, 0)),
-            ("an empty message", Start::Old, vec![0; 32], 0),
-            ("a parcel of 32", Start::New, vec![1; 32], refusal(9, 0)),
-            ("a parcel of 32", Start::Old, vec![1; 32], refusal(9, 0)),
+        for (name, open, parcel, wanted) in [
+            ("a parcel of 31", &OPEN, vec![0; 31], refusal(8, 0)),
+            ("a parcel of 31", &OPEN_OLD, vec![0; 31], refusal(8, 0)),
+            ("a tag of zeros", &OPEN, vec![0; 32], refusal(9, 0)),
+            ("an empty message", &OPEN_OLD, vec![0; 32], 0),
+            ("a parcel of 32", &OPEN, vec![1; 32], refusal(9, 0)),
+            ("a parcel of 32", &OPEN_OLD, vec![1; 32], refusal(9, 0)),
         ] {
-            let inputs: [&[u8]; 4] = [&[0; 32], &[0; 16], &[], &parcel];
-            let entry = Entry::Open {
-                start,
-                mode,
-                rounds: good,
-            };
-            answers(check, name, entry, &inputs, &mut [], wanted);
+            let call = sealing(open, [mode, good], [&[0; 32], &[], &parcel], 0);
+            answers(check, name, &call, wanted);
         }
     }
 }
@@ -158,7 +155,6 @@ fn sealing_limits(check: &mut Check) {
 /// Zero key and nonce, so under the old start whole blocks of zeros, in the header too, have zeros
 /// for a parcel of OPP.
 fn parcel_limits(check: &mut Check) {
-    let (mode, rounds) = (OPP, ROUNDS[0]);
     for (name, header, parcel, output, wanted) in [
         ("a header of 4,096", 4096, 32, 32, 32),
         ("a header of 4,097", 4097, 32, 32, refusal(5, 0)),
@@ -171,10 +167,13 @@ fn parcel_limits(check: &mut Check) {
         ("an output of 65,567", 0, 65_568, 65_567, refusal(7, 0)),
         ("a parcel of 65,569", 0, 65_569, 65_569, refusal(6, 0)),
     ] {
-        let buffers = [32, 16, header, parcel].map(|len| vec![0; len]);
-        let inputs: Vec<&[u8]> = buffers.iter().map(Vec::as_slice).collect();
-        let entry = Entry::Convert { mode, rounds };
-        answers(check, name, entry, &inputs, &mut pattern(output), wanted);
+        let inputs = [&[0; 32][..], &vec![0; header], &vec![0; parcel]];
+        answers(
+            check,
+            name,
+            &sealing(&CONVERT, [OPP, ROUNDS[0]], inputs, output),
+            wanted,
+        );
     }
 }
 
@@ -190,74 +189,88 @@ fn run_limits(check: &mut Check) {
         (4096, 65_535, 532),
         (0, 65_536, 533),
     ] {
-        let rounds = ROUNDS[0];
         for mode in [OPP, MRO] {
-            let mut buffers = [32, 16, header, message].map(|len| vec![7; len]);
-            let entry = Entry::SealRun { mode, rounds };
-            buffers[3] = run_lengths(check, entry, &buffers, needed, message + 32);
-            let entry = Entry::OpenRun { mode, rounds };
-            let opened = run_lengths(check, entry, &buffers, needed, message);
-            check.record(opened == vec![7; message], || format!("{message} bytes"));
+            let settings = [mode, ROUNDS[0]];
+            let (header, sealed) = (vec![7; header], vec![7; message]);
+            let seal = sealing(
+                &SEAL_RUN,
+                settings,
+                [&[7; 32], &header, &sealed],
+                message + 32,
+            );
+            let parcel = run_lengths(check, &seal, needed);
+            let open = sealing(&OPEN_RUN, settings, [&[7; 32], &header, &parcel], message);
+            let opened = run_lengths(check, &open, needed);
+            check.record(opened == sealed, || format!("{message} bytes"));
         }
     }
 }
 
-/// In one word too few a call is refused with 7 and changes none. In enough it answers `done`, leaves
-/// a run in the first and changes none behind. Returns the output, of `done` bytes.
-fn run_lengths(
-    check: &mut Check,
-    entry: Entry,
-    buffers: &[Vec<u8>; 4],
-    needed: usize,
-    done: usize,
-) -> Vec<u8> {
-    let inputs = buffers.each_ref().map(Vec::as_slice);
-    let mut output = pattern(done);
+/// In one word too few a call is refused with 7 and changes none. In enough it fills its output, leaves
+/// a run in the first and changes none behind. Returns the output.
+fn run_lengths(check: &mut Check, call: &Call, needed: usize) -> Vec<u8> {
+    let done = call[Output].len() as u64;
+    let mut output = Vec::new();
     for (lent, written, wanted) in [
         (needed - 1, 0, refusal(7, 0)),
-        (needed, needed, done as u64),
-        (needed + 1, needed, done as u64),
+        (needed, needed, done),
+        (needed + 1, needed, done),
     ] {
-        let before: Vec<u64> = (0..lent as u64).collect();
-        let mut words = before.clone();
-        let library = check.library;
-        let answer = library.call_with_words(entry, &inputs, &mut output, &mut words, false);
-        let (run, rest) = words.split_at(written);
+        let call = call.clone().with(Words, pattern(8 * lent));
+        let (answer, mut after) = check.library.call(&call);
+        let (run, rest) = after[Words].split_at(8 * written);
+        let word = |bytes: &[u8]| u64::from_le_bytes(*bytes.first_chunk().expect("a word"));
+        let run: Vec<u64> = run.chunks_exact(8).map(word).collect();
         let next = |w: &[u64]| w[16] == w[0].rotate_left(53) ^ (w[5] << 13);
-        let passed = answer == wanted && run.windows(17).all(next) && rest == &before[written..];
-        check.record(passed, || format!("{entry:?}, {lent} words: {answer:#x}"));
+        let kept = rest == &call[Words][8 * written..];
+        let passed = answer == wanted && run.windows(17).all(next) && kept;
+        check.record(passed, || format!("{call}: {answer:#x}"));
+        output = std::mem::take(&mut after[Output]);
     }
     output
 }
 
 fn mask_limits(check: &mut Check) {
-    let mut output = pattern(128);
     for kind in 0..3 {
         for (count, wanted) in [(65_536, 128), (65_537, refusal(11, 0))] {
             for count in [count, -count] {
                 let mut counts = [0; 3];
                 counts[kind] = count;
                 let name = format!("a net count of {count}");
-                let entry = Entry::Jump { counts };
-                answers(check, &name, entry, &[&[9; 128]], &mut output, wanted);
+                answers(check, &name, &jump(&[9; 128], counts), wanted);
             }
         }
     }
-    let inputs: [&[u8]; 2] = [&[9; 128], &[1, 7, 0]];
-    let (name, wanted) = ("steps 1, 7, 0", refusal(12, 1));
-    answers(check, name, Entry::Walk, &inputs, &mut output, wanted);
+    let call = walk(&[9; 128], &[1, 7, 0]);
+    answers(check, "steps 1, 7, 0", &call, refusal(12, 1));
+}
+
+/// A call that seals or takes a parcel, by mode and rounds, by key, header and input, and by the length
+/// of its output. Key and nonce begin with the same bytes.
+fn sealing(
+    entry: &'static Entry,
+    [mode, rounds]: [u32; 2],
+    [key, header, input]: [&[u8]; 3],
+    output_len: usize,
+) -> Call {
+    let output = pattern(output_len);
+    let [nonce, output] = [&key[..16], &output];
+    let buffers = [key, nonce, header, input, output].map(Value::from);
+    let words = entry.takes(Words).then(|| Value::Bytes(Vec::new()));
+    let settings = [mode, rounds].map(Value::from);
+    Call::new(
+        entry,
+        settings
+            .into_iter()
+            .chain(buffers)
+            .chain(words)
+            .collect::<Vec<_>>(),
+    )
 }
 
 /// Counts whether a call answers `wanted`.
-fn answers(
-    check: &mut Check,
-    name: &str,
-    entry: Entry,
-    inputs: &[&[u8]],
-    output: &mut [u8],
-    wanted: u64,
-) {
-    let answer = check.library.call(entry, inputs, output, false);
+fn answers(check: &mut Check, name: &str, call: &Call, wanted: u64) {
+    let (answer, _) = check.library.call(call);
     check.record(answer == wanted, || format!("{name}: {answer:#x}"));
 }
 

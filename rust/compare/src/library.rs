@@ -1,308 +1,273 @@
-//! Implementations with the C interface, and the second implementation behind the same face.
+//! The libraries: two with the C interface, and the second implementation behind the same face.
 
-use crate::call::Entry;
-use baseline::{RunSealing, Sealing};
-use reference::store::{self, Sale, CLOCK_LEN, NONCE_TAIL_LEN};
-use reference::{Refusal, Start};
-
-type Walking = unsafe extern "C" fn(*const u8, usize, *const u8, usize, *mut u8, usize) -> u64;
-type Jumping = unsafe extern "C" fn(*const u8, usize, i32, i32, i32, *mut u8, usize) -> u64;
-type Formatting = unsafe extern "C" fn(*mut u8, usize) -> u64;
-type Taking = unsafe extern "C" fn(
-    *const u8,
-    usize,
-    *mut u8,
-    usize,
-    u32,
-    u32,
-    *const u8,
-    u32,
-    u16,
-    u8,
-    *const u8,
-) -> u64;
-type Cancelling = unsafe extern "C" fn(*const u8, usize, *mut u8, usize, u32, u32) -> u64;
-type Totalling = unsafe extern "C" fn(*const u8, usize, *const u8, usize, *mut u64) -> u64;
-type Reading = unsafe extern "C" fn(*const u8, usize, u32, u32) -> u64;
+use crate::call::{Call, Value};
+use crate::entry::Entry;
+use crate::report::Watched;
+use std::ops::{Deref, DerefMut};
 
 /// A library under test.
+#[derive(Clone, Copy)]
 pub enum Library {
-    /// One with the C interface.
-    Foreign(Functions),
+    /// The archive of the proved library.
+    #[cfg(feature = "archive")]
+    Archive,
+    /// The scalar C version.
+    Baseline,
     /// The second implementation itself, to be held against answers that come from elsewhere.
     Reference,
 }
 
-/// The calls of the C interface.
-pub struct Functions {
-    seal: Sealing,
-    open: Sealing,
-    open_old: Sealing,
-    convert: Sealing,
-    seal_run: RunSealing,
-    open_run: RunSealing,
-    walk: Walking,
-    jump: Jumping,
-    format: Formatting,
-    take: Taking,
-    cancel: Cancelling,
-    total: Totalling,
-    read: Reading,
-}
-
-/// The scalar C version.
-pub const BASELINE: Library = Library::Foreign(Functions {
-    seal: baseline::baseline_seal,
-    open: baseline::baseline_open,
-    open_old: baseline::baseline_open_old,
-    convert: baseline::baseline_convert,
-    seal_run: baseline::baseline_seal_run,
-    open_run: baseline::baseline_open_run,
-    walk: baseline::baseline_walk,
-    jump: baseline::baseline_jump,
-    format: baseline::baseline_store_format,
-    take: baseline::baseline_store_take,
-    cancel: baseline::baseline_store_cancel,
-    total: baseline::baseline_store_total,
-    read: baseline::baseline_store_read,
-});
-
-/// The archive of the proved library, where this program is linked with it.
+/// The archive, where this program is linked with it.
 #[cfg(feature = "archive")]
-pub const ARCHIVE: Option<Library> = Some(Library::Foreign(Functions {
-    seal: calmbaize::ffi::calmbaize_seal,
-    open: calmbaize::ffi::calmbaize_open,
-    open_old: calmbaize::ffi::calmbaize_open_old,
-    convert: calmbaize::ffi::calmbaize_convert,
-    seal_run: calmbaize::ffi::calmbaize_seal_run,
-    open_run: calmbaize::ffi::calmbaize_open_run,
-    walk: calmbaize::ffi::calmbaize_walk,
-    jump: calmbaize::ffi::calmbaize_jump,
-    format: calmbaize::ffi::calmbaize_store_format,
-    take: calmbaize::ffi::calmbaize_store_take,
-    cancel: calmbaize::ffi::calmbaize_store_cancel,
-    total: calmbaize::ffi::calmbaize_store_total,
-    read: calmbaize::ffi::calmbaize_store_read,
-}));
+pub const ARCHIVE: Option<Library> = Some(Library::Archive);
 #[cfg(not(feature = "archive"))]
 pub const ARCHIVE: Option<Library> = None;
 
-impl Library {
-    /// Makes a call that lends no words. Where `null` is set, empty buffers are passed as null
-    /// pointers.
-    pub fn call(&self, entry: Entry, inputs: &[&[u8]], output: &mut [u8], null: bool) -> u64 {
-        self.call_with_words(entry, inputs, output, &mut [], null)
+/// A call of the C interface in both libraries that have it.
+pub struct Function {
+    #[cfg(feature = "archive")]
+    pub archive: fn(&mut Slots) -> u64,
+    pub baseline: fn(&mut Slots) -> u64,
+}
+
+/// A [`Function`] by its names, behind the caller of functions with so many parameters.
+macro_rules! function {
+    ($caller:ident, $archive:ident, $baseline:ident) => {
+        crate::library::Function {
+            #[cfg(feature = "archive")]
+            archive: |slots| crate::library::$caller(calmbaize::ffi::$archive, slots),
+            baseline: |slots| crate::library::$caller(baseline::$baseline, slots),
+        }
+    };
+}
+pub(crate) use function;
+
+/// Callers of C functions: each parameter takes what it needs of the arguments.
+macro_rules! callers {
+    ($($caller:ident($($parameter:ident)*))*) => {$(
+        #[expect(non_snake_case, reason = "a parameter is named as its type is")]
+        pub fn $caller<'a, $($parameter: Taken<'a>),*>(
+            function: unsafe extern "C" fn($($parameter),*) -> u64,
+            slots: &mut Slots<'a>,
+        ) -> u64 {
+            $(let $parameter = slots.next();)*
+            slots.all_taken();
+            // SAFETY: a pointer is valid for the length behind it, or for what the argument's kind
+            // says, or null with length 0; what is written is borrowed mutably, so it overlaps
+            // nothing else; and words are aligned.
+            unsafe { function($($parameter),*) }
+        }
+    )*};
+}
+
+callers! {
+    c2(A B)
+    c4(A B C D)
+    c5(A B C D E)
+    c6(A B C D E F)
+    c7(A B C D E F G)
+    c11(A B C D E F G H I J K)
+    c12(A B C D E F G H I J K L)
+    c14(A B C D E F G H I J K L M N)
+}
+
+/// An argument in memory: a number, a buffer that is only read, or one that the call writes.
+pub enum Held<R, W> {
+    Number(i64),
+    Read(R),
+    Written(W),
+}
+
+/// All arguments of a call in memory.
+pub struct Lent<R, W> {
+    entry: &'static Entry,
+    pub held: Vec<Held<R, W>>,
+}
+
+impl<R: Deref<Target = [u8]>, W: DerefMut<Target = [u8]>> Lent<R, W> {
+    /// The arguments of `call`, its buffers put into memory by these two.
+    pub fn new<'a>(
+        call: &'a Call,
+        read: impl Fn(&'a [u8]) -> R,
+        written: impl Fn(&'a [u8]) -> W,
+    ) -> Self {
+        let entry = call.entry;
+        let held = entry
+            .args
+            .iter()
+            .zip(&call.values)
+            .map(|(arg, value)| match value {
+                Value::Number(number) => Held::Number(*number),
+                Value::Bytes(bytes) => {
+                    assert!(arg.can_be(bytes.len()), "{call}: {arg:?}");
+                    if entry.writes.contains(arg) {
+                        Held::Written(written(bytes))
+                    } else {
+                        Held::Read(read(bytes))
+                    }
+                }
+            });
+        Self {
+            entry,
+            held: held.collect(),
+        }
     }
 
-    /// The same with `words` for a call that takes them.
-    pub fn call_with_words(
-        &self,
-        entry: Entry,
-        inputs: &[&[u8]],
-        output: &mut [u8],
-        words: &mut [u64],
-        null: bool,
-    ) -> u64 {
-        match (self, entry) {
-            (Self::Reference, _) => expected(entry, inputs, output, words),
-            (Self::Foreign(functions), Entry::SealRun { .. } | Entry::OpenRun { .. }) => {
-                functions.run_call(entry, inputs, output, words, null)
-            }
-            (Self::Foreign(functions), _) => functions.call(entry, inputs, output, null),
+    /// Makes the call. Where `null` is set, the C interface gets empty buffers as null pointers.
+    pub fn call(&mut self, library: Library, null: bool) -> u64 {
+        let entry = self.entry;
+        let slots = self.held.iter_mut().map(|held| match held {
+            Held::Number(number) => Slot::Number(*number),
+            Held::Read(bytes) => Slot::Read(bytes),
+            Held::Written(bytes) => Slot::Written(bytes),
+        });
+        let slots = slots.collect::<Vec<Slot>>();
+        let mut slots = Slots {
+            slots: slots.into_iter(),
+            len: 0,
+            null,
+        };
+        match library {
+            #[cfg(feature = "archive")]
+            Library::Archive => (entry.function.archive)(&mut slots),
+            Library::Baseline => (entry.function.baseline)(&mut slots),
+            Library::Reference => match (entry.reference)(&mut slots) {
+                Ok(value) => value as u64,
+                Err((number, place)) => refusal(number, place),
+            },
         }
+    }
+
+    /// The arguments as they are now.
+    pub fn now(self) -> Call
+    where
+        Value: From<R>,
+    {
+        let value = |held: Held<R, W>| match held {
+            Held::Number(number) => Value::Number(number),
+            Held::Read(bytes) => bytes.into(),
+            Held::Written(bytes) => bytes[..].into(),
+        };
+        let values = self.held.into_iter().map(value);
+        Call::new(self.entry, values.collect::<Vec<Value>>())
     }
 }
 
-impl Functions {
-    fn call(&self, entry: Entry, inputs: &[&[u8]], output: &mut [u8], null: bool) -> u64 {
-        let at = |i: usize| pointer(inputs[i], null);
-        let len = |i: usize| inputs[i].len();
-        let (out, out_len) = (pointer_mut(output, null), output.len());
-        // SAFETY: each pointer is valid for its length or null with length 0, and `output` is
-        // borrowed mutably, so it overlaps none of the others.
-        let sealing = |f: Sealing, mode, rounds| unsafe {
-            let (key, nonce, header, input) = (at(0), at(1), at(2), at(3));
-            let [k, n, h, i] = [len(0), len(1), len(2), len(3)];
-            f(
-                mode, rounds, key, k, nonce, n, header, h, input, i, out, out_len,
-            )
-        };
-        match entry {
-            Entry::Seal { mode, rounds } => sealing(self.seal, mode, rounds),
-            Entry::Open {
-                start,
-                mode,
-                rounds,
-            } => match start {
-                Start::New => sealing(self.open, mode, rounds),
-                Start::Old => sealing(self.open_old, mode, rounds),
-            },
-            Entry::Convert { mode, rounds } => sealing(self.convert, mode, rounds),
-            // SAFETY: as above.
-            Entry::Walk => unsafe { (self.walk)(at(0), len(0), at(1), len(1), out, out_len) },
-            Entry::Jump { counts: [a, b, c] } => {
-                // SAFETY: as above.
-                unsafe { (self.jump)(at(0), len(0), a, b, c, out, out_len) }
-            }
-            _ => self.store_call(entry, inputs, output, null),
-        }
+impl Library {
+    /// Makes a call. Returns the answer and the arguments afterwards.
+    pub fn call(self, call: &Call) -> (u64, Call) {
+        let mut lent = Lent::new(call, |bytes| bytes, Watched::new);
+        (lent.call(self, false), lent.now())
+    }
+}
+
+/// An argument as it is handed over.
+enum Slot<'a> {
+    Number(i64),
+    Read(&'a [u8]),
+    Written(&'a mut [u8]),
+}
+
+/// The arguments that are still to be handed over.
+pub struct Slots<'a> {
+    slots: std::vec::IntoIter<Slot<'a>>,
+    /// The length of the buffer whose pointer was taken last.
+    len: usize,
+    null: bool,
+}
+
+impl<'a> Slots<'a> {
+    /// The next argument, or the length of the one before.
+    pub fn next<T: Taken<'a>>(&mut self) -> T {
+        T::taken(self)
     }
 
-    fn run_call(
-        &self,
-        entry: Entry,
-        inputs: &[&[u8]],
-        output: &mut [u8],
-        words: &mut [u64],
-        null: bool,
-    ) -> u64 {
-        let (f, mode, rounds) = match entry {
-            Entry::SealRun { mode, rounds } => (self.seal_run, mode, rounds),
-            Entry::OpenRun { mode, rounds } => (self.open_run, mode, rounds),
-            _ => panic!("{entry:?} takes no words"),
-        };
-        let [key, nonce, header, input] = [0, 1, 2, 3].map(|i| pointer(inputs[i], null));
-        let [k, n, h, i] = [0, 1, 2, 3].map(|i| inputs[i].len());
-        let (out, out_len) = (pointer_mut(output, null), output.len());
-        let (words, count) = (pointer_mut(words, null), words.len());
-        // SAFETY: as in `call`; `words` is borrowed mutably too, and aligned as words are.
-        unsafe {
-            f(
-                mode, rounds, key, k, nonce, n, header, h, input, i, out, out_len, words, count,
-            )
-        }
+    fn all_taken(&self) {
+        assert_eq!(self.slots.len(), 0, "arguments left");
     }
+}
 
-    fn store_call(&self, entry: Entry, inputs: &[&[u8]], output: &mut [u8], null: bool) -> u64 {
-        let at = |i: usize| pointer(inputs[i], null);
-        let len = |i: usize| inputs[i].len();
-        let (out, out_len) = (pointer_mut(output, null), output.len());
-        match entry {
-            // SAFETY: as in `call`.
-            Entry::Format => unsafe { (self.format)(out, out_len) },
-            Entry::Take {
-                machine,
-                sale,
-                amount,
-                column,
-                means,
-            } => {
-                assert_eq!([len(1), len(2)], [NONCE_TAIL_LEN, CLOCK_LEN]);
-                let (key, key_len, tail, clock) = (at(0), len(0), at(1), at(2));
-                // SAFETY: as in `call`; `tail` and `clock` are as long as the call takes them.
-                unsafe {
-                    (self.take)(
-                        key, key_len, out, out_len, machine, sale, tail, amount, column, means,
-                        clock,
-                    )
+/// A parameter, by what it takes of the arguments.
+pub trait Taken<'a>: Sized {
+    fn taken(slots: &mut Slots<'a>) -> Self;
+}
+
+macro_rules! numbers {
+    ($($number:ty)*) => {$(
+        impl<'a> Taken<'a> for $number {
+            fn taken(slots: &mut Slots<'a>) -> Self {
+                match slots.slots.next() {
+                    Some(Slot::Number(number)) => number.try_into().expect("a number that fits"),
+                    _ => panic!("no number"),
                 }
             }
-            Entry::Cancel { machine, sale } => {
-                // SAFETY: as in `call`.
-                unsafe { (self.cancel)(at(0), len(0), out, out_len, machine, sale) }
-            }
-            Entry::Total => {
-                let total = out.cast::<u64>();
-                assert!(out_len == 8 && total.is_aligned(), "a u64 for the total");
-                // SAFETY: as in `call`; `total` is valid for a `u64` and aligned as one.
-                unsafe { (self.total)(at(0), len(0), at(1), len(1), total) }
-            }
-            // SAFETY: as in `call`.
-            Entry::Read { machine, sale } => unsafe { (self.read)(at(0), len(0), machine, sale) },
-            _ => panic!("{entry:?} is no call of the store"),
+        }
+    )*};
+}
+
+numbers! { u8 u16 u32 i32 }
+
+impl<'a> Taken<'a> for &'a [u8] {
+    fn taken(slots: &mut Slots<'a>) -> Self {
+        match slots.slots.next() {
+            Some(Slot::Read(bytes)) => bytes,
+            _ => panic!("no buffer that is read"),
         }
     }
 }
 
-/// A null pointer for an empty buffer if `null` says so.
-fn pointer(buffer: &[u8], null: bool) -> *const u8 {
-    if null && buffer.is_empty() {
-        std::ptr::null()
-    } else {
-        buffer.as_ptr()
+impl<'a> Taken<'a> for &'a mut [u8] {
+    fn taken(slots: &mut Slots<'a>) -> Self {
+        match slots.slots.next() {
+            Some(Slot::Written(bytes)) => bytes,
+            _ => panic!("no buffer that is written"),
+        }
     }
 }
 
-/// The same for a buffer that is written.
-fn pointer_mut<T>(buffer: &mut [T], null: bool) -> *mut T {
-    if null && buffer.is_empty() {
-        std::ptr::null_mut()
-    } else {
+impl<'a> Taken<'a> for &'a mut [u64] {
+    fn taken(slots: &mut Slots<'a>) -> Self {
+        // SAFETY: any eight bytes are a word.
+        let (before, words, after) = unsafe { slots.next::<&mut [u8]>().align_to_mut() };
+        assert!(before.is_empty() && after.is_empty(), "no buffer of words");
+        words
+    }
+}
+
+impl<'a, T: Taken<'a>, const N: usize> Taken<'a> for [T; N] {
+    fn taken(slots: &mut Slots<'a>) -> Self {
+        std::array::from_fn(|_| slots.next())
+    }
+}
+
+impl<'a> Taken<'a> for *const u8 {
+    fn taken(slots: &mut Slots<'a>) -> Self {
+        let bytes: &[u8] = slots.next();
+        slots.len = bytes.len();
+        if slots.null && bytes.is_empty() {
+            return std::ptr::null();
+        }
+        bytes.as_ptr()
+    }
+}
+
+impl<'a, T: 'a> Taken<'a> for *mut T
+where
+    &'a mut [T]: Taken<'a>,
+{
+    fn taken(slots: &mut Slots<'a>) -> Self {
+        let buffer: &mut [T] = slots.next();
+        slots.len = buffer.len();
+        if slots.null && buffer.is_empty() {
+            return std::ptr::null_mut();
+        }
         buffer.as_mut_ptr()
     }
 }
 
-/// The second implementation's answer in the form of the C interface.
-pub fn expected(entry: Entry, inputs: &[&[u8]], output: &mut [u8], words: &mut [u64]) -> u64 {
-    let result = match (entry, inputs) {
-        (Entry::Seal { mode, rounds }, [key, nonce, header, message]) => {
-            reference::seal(mode, rounds, key, nonce, header, message, output)
-        }
-        (
-            Entry::Open {
-                start,
-                mode,
-                rounds,
-            },
-            &[key, nonce, header, parcel],
-        ) => {
-            let inputs = [key, nonce, header, parcel];
-            reference::open_under(start, mode, rounds, inputs, output)
-        }
-        (Entry::Convert { mode, rounds }, &[key, nonce, header, parcel]) => {
-            reference::convert(mode, rounds, [key, nonce, header, parcel], output)
-        }
-        (Entry::SealRun { mode, rounds }, &[key, nonce, header, message]) => {
-            let inputs = [key, nonce, header, message];
-            reference::seal_run(mode, rounds, inputs, output, words)
-        }
-        (Entry::OpenRun { mode, rounds }, &[key, nonce, header, parcel]) => {
-            let inputs = [key, nonce, header, parcel];
-            reference::open_run(mode, rounds, inputs, output, words)
-        }
-        (Entry::Walk, [start, steps]) => reference::walk(start, steps, output),
-        (Entry::Jump { counts }, [start]) => reference::jump(start, counts, output),
-        _ => expected_of_store(entry, inputs, output),
-    };
-    match result {
-        Ok(value) => value as u64,
-        Err((number, place)) => refusal(number, place),
-    }
-}
-
-fn expected_of_store(entry: Entry, inputs: &[&[u8]], output: &mut [u8]) -> Result<usize, Refusal> {
-    match (entry, inputs) {
-        (Entry::Format, []) => store::format(output),
-        (
-            Entry::Take {
-                machine,
-                sale,
-                amount,
-                column,
-                means,
-            },
-            [key, nonce_tail, clock],
-        ) => {
-            let sold = Sale {
-                machine,
-                sale,
-                nonce_tail: (*nonce_tail).try_into().expect("a nonce tail"),
-                amount,
-                column,
-                means,
-                clock: (*clock).try_into().expect("a clock"),
-            };
-            store::take(key, output, &sold)
-        }
-        (Entry::Cancel { machine, sale }, [key]) => {
-            store::cancel(key, output, machine, sale).map(|amount| amount as usize)
-        }
-        (Entry::Total, [key, store]) => store::total(key, store).map(|total| {
-            output.copy_from_slice(&total.to_ne_bytes());
-            0
-        }),
-        (Entry::Read { machine, sale }, [store]) => store::read(store, machine, sale),
-        _ => panic!("{entry:?} with {} buffers", inputs.len()),
+impl<'a> Taken<'a> for usize {
+    fn taken(slots: &mut Slots<'a>) -> Self {
+        slots.len
     }
 }
 

@@ -4,11 +4,13 @@
 //! The last line is 'N passed, M failed', and the exit status is 1 where anything failed.
 
 mod call;
+mod calls;
 mod case;
 mod child;
 mod conversion;
 mod damage;
 mod edges;
+mod entry;
 mod grounds;
 mod guard;
 mod known;
@@ -26,7 +28,7 @@ mod runs;
 mod stores;
 mod text;
 
-use library::{Library, ARCHIVE, BASELINE};
+use library::{Library, ARCHIVE};
 use options::{Options, GUARD_CHILD, REPLAY_CHILD, USAGE};
 use prng::Prng;
 use report::Tally;
@@ -46,19 +48,19 @@ fn main() -> ExitCode {
 fn run(options: &Options) -> Result<ExitCode, String> {
     let library = match options.library.as_str() {
         "archive" => ARCHIVE.ok_or("built without the archive: use --library baseline")?,
-        "baseline" => BASELINE,
+        "baseline" => Library::Baseline,
         "reference" => Library::Reference,
         other => return Err(format!("no library '{other}'")),
     };
     match options.checks[0].as_str() {
-        GUARD_CHILD => guard::child(&library),
-        REPLAY_CHILD => replay::child(&library, &read(&options.files[0])?),
-        _ => return all_checks(&library, options),
+        GUARD_CHILD => guard::child(library),
+        REPLAY_CHILD => replay::child(library, &read(&options.files[0])?),
+        _ => return all_checks(library, options),
     }
     Ok(ExitCode::SUCCESS)
 }
 
-fn all_checks(library: &Library, options: &Options) -> Result<ExitCode, String> {
+fn all_checks(library: Library, options: &Options) -> Result<ExitCode, String> {
     println!("{}, seed {}", options.library, options.seed);
     let mut total = Tally::default();
     for name in &options.checks {
@@ -75,7 +77,7 @@ fn all_checks(library: &Library, options: &Options) -> Result<ExitCode, String> 
     Ok(ExitCode::from(u8::from(total.failed > 0)))
 }
 
-fn check(name: &str, library: &Library, options: &Options) -> Result<Tally, String> {
+fn check(name: &str, library: Library, options: &Options) -> Result<Tally, String> {
     Ok(match name {
         "known" => known::run(library),
         "grounds" => grounds::run(library, options.seed),

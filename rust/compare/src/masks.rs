@@ -1,6 +1,8 @@
 //! The mask rule, runs of words and the paper's polynomial, on the library's own walk and jump.
 
-use crate::call::{Call, Entry};
+use crate::call::Call;
+use crate::calls::{self, SEAL_RUN};
+use crate::entry::Arg::{Output, Words};
 use crate::library::Library;
 use crate::prng::Prng;
 use crate::report::{Check, Tally};
@@ -11,7 +13,7 @@ const EXPONENTS: [usize; 9] = [1024, 901, 695, 572, 409, 366, 203, 163, 0];
 
 /// Lists in other orders give the same block, and so does the jump by their net counts. A run has
 /// the blocks that walk reaches.
-pub fn run(library: &Library, seed: u64) -> Tally {
+pub fn run(library: Library, seed: u64) -> Tally {
     let mut prng = Prng::new(seed);
     let mut check = Check::new(library);
     for n in 0..300 {
@@ -20,7 +22,7 @@ pub fn run(library: &Library, seed: u64) -> Tally {
         let mut steps = prng.steps(len);
         let reached = walk(library, &start, &steps);
         let counts = net_counts(&steps);
-        let jumped = block(library, Entry::Jump { counts }, &[&start]);
+        let jumped = block(library, &calls::jump(&start, counts));
         check.record(same(&reached, &jumped), || {
             format!("the jump by {counts:?}")
         });
@@ -44,13 +46,13 @@ pub fn run(library: &Library, seed: u64) -> Tally {
 /// a beta or gamma step from there gives sums of neighbours.
 fn windows(check: &mut Check, seal: &Call) {
     let library = check.library;
-    let mut run = vec![0; seal.run_len()];
-    let call = seal.clone().into_run(Vec::new());
-    let (inputs, mut output) = (call.slices(), call.output.clone());
-    let answer = library.call_with_words(call.entry, &inputs, &mut output, &mut run, false);
-    check.record(answer == output.len() as u64, || {
+    let call = seal.turned(&SEAL_RUN);
+    let (answer, after) = library.call(&call);
+    check.record(answer == call[Output].len() as u64, || {
         format!("{call}: {answer:#x}")
     });
+    let words = 0..after[Words].len() / 8;
+    let run: Vec<u64> = words.map(|n| word(&after[Words], n)).collect();
     for (n, w) in run.windows(18).enumerate() {
         let from = block_of(|t| w[t]);
         for (step, to) in [
@@ -96,12 +98,13 @@ fn evaluate(start: &[u8], alpha: impl Fn(&[u8]) -> Reached) -> Reached {
 }
 
 fn with_two_rotations(block: &[u8]) -> Vec<u8> {
-    let word = |i: usize| {
-        let bytes = block[8 * i..8 * i + 8].try_into().expect("eight bytes");
-        u64::from_le_bytes(bytes)
-    };
-    let last = word(0).rotate_left(53) ^ word(5).rotate_left(13);
+    let last = word(block, 0).rotate_left(53) ^ word(block, 5).rotate_left(13);
     [&block[8..], &last.to_le_bytes()].concat()
+}
+
+/// Word `n` of these bytes.
+fn word(bytes: &[u8], n: usize) -> u64 {
+    u64::from_le_bytes(*bytes[8 * n..].first_chunk().expect("eight bytes"))
 }
 
 fn net_counts(steps: &[u8]) -> [i32; 3] {
@@ -117,14 +120,13 @@ fn same(a: &Reached, b: &Reached) -> bool {
     matches!((a, b), (Ok(a), Ok(b)) if a == b)
 }
 
-fn walk(library: &Library, start: &[u8], steps: &[u8]) -> Reached {
-    block(library, Entry::Walk, &[start, steps])
+fn walk(library: Library, start: &[u8], steps: &[u8]) -> Reached {
+    block(library, &calls::walk(start, steps))
 }
 
-fn block(library: &Library, entry: Entry, inputs: &[&[u8]]) -> Reached {
-    let mut output = vec![0; 128];
-    match library.call(entry, inputs, &mut output, false) {
-        128 => Ok(output),
-        answer => Err(answer),
+fn block(library: Library, call: &Call) -> Reached {
+    match library.call(call) {
+        (128, mut after) => Ok(std::mem::take(&mut after[Output])),
+        (answer, _) => Err(answer),
     }
 }

@@ -1,7 +1,7 @@
 //! Which refusals of which entry points a run met.
 
 use crate::call::Call;
-use crate::grounds::Grounds;
+use crate::entry::Entry;
 use crate::report::Tally;
 use std::collections::BTreeMap;
 
@@ -10,20 +10,18 @@ pub struct Met(BTreeMap<(&'static str, u32), u64>);
 
 impl Met {
     /// Every refusal that one of `entries` can give, met by no call yet.
-    pub fn new(entries: &[(&'static str, Grounds)]) -> Self {
-        let numbers = |grounds: Grounds| grounds.concat().into_iter().map(|(number, _)| number);
-        let pairs = entries.iter().flat_map(|&(name, grounds)| {
-            [0].into_iter()
-                .chain(numbers(grounds))
-                .map(move |n| (name, n))
-        });
-        Self(pairs.map(|pair| (pair, 0)).collect())
+    pub fn new(entries: impl Iterator<Item = &'static Entry>) -> Self {
+        let numbers = |entry: &'static Entry| {
+            let numbers = [0].iter().chain(entry.refused);
+            numbers.map(|&number| ((entry.name, number), 0))
+        };
+        Self(entries.flat_map(numbers).collect())
     }
 
     /// Counts a call by its answer.
     pub fn add(&mut self, call: &Call, answer: u64) {
         let number = (answer >> 32) as u32;
-        *self.0.entry((call.entry.name(), number)).or_default() += 1;
+        *self.0.entry((call.entry.name, number)).or_default() += 1;
     }
 
     /// Prints a line for each entry point.

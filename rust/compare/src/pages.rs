@@ -1,5 +1,7 @@
 //! Buffers at the edge of a page that can't be touched.
 
+use crate::call::{Call, Value};
+use crate::library::Lent;
 use std::ffi::c_void;
 use std::ops::{Deref, DerefMut};
 
@@ -33,6 +35,12 @@ pub enum Edge {
     Last,
 }
 
+/// The arguments of `call`, each buffer at this edge of pages of its own.
+pub fn lent(call: &Call, edge: Edge) -> Lent<Input, Output> {
+    let read = |bytes: &[u8]| Input::new(bytes, edge);
+    Lent::new(call, read, |bytes| Output::new(bytes, edge))
+}
+
 /// A buffer that may be written.
 pub struct Output {
     pages: Pages,
@@ -46,18 +54,6 @@ impl Output {
         let mut output = Self { pages };
         output.copy_from_slice(bytes);
         output
-    }
-
-    /// The same buffer as words, of which x86-64 has the low byte first.
-    ///
-    /// # Panics
-    ///
-    /// If its length is not one of words. Then it need not be aligned as words are either.
-    pub fn words(&mut self) -> &mut [u64] {
-        // SAFETY: any eight bytes are a word.
-        let (before, words, after) = unsafe { self.align_to_mut() };
-        assert!(before.is_empty() && after.is_empty(), "a buffer of words");
-        words
     }
 }
 
@@ -96,6 +92,12 @@ impl Deref for Input {
 
     fn deref(&self) -> &[u8] {
         self.pages.bytes()
+    }
+}
+
+impl From<Input> for Value {
+    fn from(input: Input) -> Self {
+        input[..].into()
     }
 }
 

@@ -41,11 +41,6 @@ impl Prng {
         bytes
     }
 
-    /// `len` random words.
-    pub fn words(&mut self, len: usize) -> Vec<u64> {
-        (0..len).map(|_| self.next()).collect()
-    }
-
     /// `len` random step bytes.
     pub fn steps(&mut self, len: usize) -> Vec<u8> {
         (0..len).map(|_| 1 + self.below(6) as u8).collect()

@@ -1,15 +1,16 @@
 //! Random calls of all entry points but the store's: long and short, valid, refused and damaged.
 
-use crate::call::{pattern, Call, Entry};
-use crate::conversion;
+use crate::call::{pattern, Call, Value};
+use crate::calls::{self, SEAL};
 use crate::damage;
-use crate::grounds::ENTRIES;
+use crate::entry::Arg::{self, Message, Output, Parcel, Steps, Words};
+use crate::entry::{Entry, Kind};
+use crate::grounds::refused_counts;
 use crate::library::Library;
 use crate::met::Met;
 use crate::prng::Prng;
 use crate::report::{Check, Tally};
-use crate::runs;
-use reference::{Start, MRO, OPP, ROUNDS};
+use reference::MAX_MESSAGE_LEN;
 use std::time::Instant;
 
 /// Calls among which every refusal of every entry point is met: each is drawn some ten times in so
@@ -17,18 +18,17 @@ use std::time::Instant;
 const ENOUGH: u64 = 3000;
 
 /// Compares `calls` random calls.
-pub fn run(library: &Library, seed: u64, calls: u64) -> Tally {
+pub fn run(library: Library, seed: u64, calls: u64) -> Tally {
     let mut prng = Prng::new(seed);
     let mut check = Check::new(library);
-    let mut met = Met::new(&ENTRIES);
+    let mut met = Met::new(calls::but_store());
+    // Those that seal or take a parcel twice as often.
+    let entries: Vec<&Entry> = calls::but_store().chain(calls::sealing()).collect();
     let begin = Instant::now();
     for n in 1..=calls {
-        let call = random_call(&mut prng);
-        let (answer, _) = match call.entry {
-            Entry::Convert { .. } => conversion::compare(&mut check, &call),
-            Entry::SealRun { .. } | Entry::OpenRun { .. } => runs::compare(&mut check, &call),
-            _ => check.compare(&call),
-        };
+        let entry = prng.pick(&entries);
+        let call = random_call(&mut prng, entry);
+        let (answer, _) = check.obeys(&call);
         met.add(&call, answer);
         if n % 50_000 == 0 {
             println!("  {n} calls, {:.0} s", begin.elapsed().as_secs_f64());
@@ -43,87 +43,83 @@ pub fn run(library: &Library, seed: u64, calls: u64) -> Tally {
     check.tally
 }
 
-fn random_call(prng: &mut Prng) -> Call {
-    match prng.below(14) {
-        0..=1 => random_seal(prng),
-        2..=5 => random_open(prng),
-        6..=7 => random_convert(prng),
-        8..=9 => random_seal_run(prng),
-        10..=11 => random_open_run(prng),
-        12 => random_walk(prng),
-        _ => random_jump(prng),
+/// A call of random arguments. Its parcel was sealed, but half of the time it is damaged or under other
+/// settings, and now and then cut to a tag or less.
+fn random_call(prng: &mut Prng, entry: &'static Entry) -> Call {
+    let values = entry.args.iter().map(|&arg| value(prng, arg));
+    let mut call = Call::new(entry, values.collect::<Vec<Value>>());
+    if entry.takes(Parcel) {
+        seal_parcel(prng, &mut call);
     }
-}
-
-fn random_seal(prng: &mut Prng) -> Call {
-    let (mode, rounds) = random_settings(prng);
-    let header = length(prng, 4096);
-    let message = length(prng, 65_536);
-    let inputs = vec![
-        exact_length_bytes(prng, 32),
-        exact_length_bytes(prng, 16),
-        prng.bytes(header),
-        prng.bytes(message),
-    ];
-    let output_len = lent_length(prng, message + 32);
-    Call::new(Entry::Seal { mode, rounds }, inputs, pattern(output_len))
-}
-
-/// A parcel that was sealed, half of the time damaged or opened under other settings.
-fn random_open(prng: &mut Prng) -> Call {
-    let start = prng.pick(&[Start::New, Start::Old]);
-    let call = sound_open(prng, start);
-    half_damaged(prng, call)
-}
-
-fn sound_open(prng: &mut Prng, start: Start) -> Call {
-    let sealing = random_seal(prng);
-    let parcel = sealing.parcel(start);
-    let output_len = lent_length(prng, parcel.len() - 32);
-    sealing.into_open(start, parcel, output_len)
-}
-
-fn random_seal_run(prng: &mut Prng) -> Call {
-    let call = random_seal(prng);
-    with_run(prng, call)
-}
-
-fn random_open_run(prng: &mut Prng) -> Call {
-    let call = sound_open(prng, Start::New);
-    let call = with_run(prng, call);
-    half_damaged(prng, call)
-}
-
-fn with_run(prng: &mut Prng, call: Call) -> Call {
-    let len = lent_length(prng, call.run_len());
-    call.into_run(prng.words(len))
-}
-
-/// The same to be converted: a parcel of the new start is done already.
-fn random_convert(prng: &mut Prng) -> Call {
-    let sealing = random_seal(prng);
-    let parcel = sealing.parcel(prng.pick(&[Start::New, Start::Old]));
-    let output_len = lent_length(prng, parcel.len());
-    let call = sealing.into_convert(parcel, output_len);
-    half_damaged(prng, call)
-}
-
-/// A call damaged half of the time; now and then its parcel is cut to a tag or less.
-fn half_damaged(prng: &mut Prng, mut call: Call) -> Call {
-    if prng.once_in(2) {
+    for (arg, unit) in [(Output, 1), (Words, 8)] {
+        if entry.takes(arg) {
+            let len = unit * lent_length(prng, call.needed(arg) / unit);
+            call[arg] = if arg == Words {
+                prng.bytes(len)
+            } else {
+                pattern(len)
+            };
+        }
+    }
+    if entry.takes(Parcel) && prng.once_in(2) {
         damage::random(prng, &mut call);
     }
-    if prng.once_in(20) {
-        let len = prng.below(33);
-        call.inputs[3].truncate(len);
+    if entry.takes(Parcel) && prng.once_in(20) {
+        call[Parcel].truncate(prng.below(33));
     }
     call
 }
 
-fn random_walk(prng: &mut Prng) -> Call {
+/// What was drawn for the parcel becomes the parcel of such a message, mostly under a start that is not
+/// refused with 9.
+fn seal_parcel(prng: &mut Prng, call: &mut Call) {
+    let any = prng.once_in(16);
+    let starts = call
+        .entry
+        .parcels
+        .iter()
+        .filter(|(_, number)| any || *number != 9);
+    let (start, _) = prng.pick(&starts.collect::<Vec<_>>());
+    let message = std::mem::take(&mut call[Parcel]);
+    call[Parcel] = call.turned(&SEAL).with(Message, message).parcel(*start);
+}
+
+/// A random value of an argument, mostly an allowed one. What has to be lent comes later.
+fn value(prng: &mut Prng, arg: Arg) -> Value {
+    match arg.kind() {
+        Kind::Choice(allowed, refused) => {
+            let numbers = if prng.once_in(40) { refused } else { allowed };
+            prng.pick(numbers).into()
+        }
+        Kind::Count(max) => count(prng, max).into(),
+        Kind::Number(max) => (prng.next() as u32 % max).into(),
+        Kind::Bytes(lengths) => match (arg, lengths.into_inner()) {
+            (Steps, (_, max)) => steps(prng, max).into(),
+            (Parcel, _) => message(prng, MAX_MESSAGE_LEN).into(),
+            (_, (min, max)) if min == max => exact_length_bytes(prng, max).into(),
+            (_, (_, max)) => message(prng, max).into(),
+        },
+        Kind::Fixed(len) => prng.bytes(len).into(),
+        Kind::Variable => prng.bytes(8).into(),
+        Kind::Room | Kind::Run => Vec::new().into(),
+    }
+}
+
+/// Mostly a short one: the library takes a jump step by step.
+fn count(prng: &mut Prng, max: u32) -> i32 {
+    let bits = if prng.once_in(50) { 17 } else { prng.below(9) };
+    match prng.below(150) {
+        0 => prng.pick(&[max as i32, -(max as i32)]),
+        1..=4 => prng.pick(&refused_counts(max)),
+        _ => prng.below((1 << bits) + 1) as i32 - (1 << bits) / 2,
+    }
+}
+
+/// Steps, mostly few, now and then with some that are none.
+fn steps(prng: &mut Prng, max: usize) -> Vec<u8> {
     let len = match prng.below(20) {
-        0 => length(prng, 4096),
-        1 => 4097 + prng.below(3),
+        0 => length(prng, max),
+        1 => max + 1 + prng.below(3),
         _ => prng.below(40),
     };
     let mut steps = prng.steps(len);
@@ -133,34 +129,12 @@ fn random_walk(prng: &mut Prng) -> Call {
             steps[place] = prng.pick(&[0, 7, 8, 255]);
         }
     }
-    let start = exact_length_bytes(prng, 128);
-    Call::walk(start, steps, lent_length(prng, 128))
+    steps
 }
 
-fn random_jump(prng: &mut Prng) -> Call {
-    let mut counts = [0; 3];
-    for count in &mut counts {
-        // Mostly short ones: the library takes a jump step by step.
-        let bits = if prng.once_in(50) { 17 } else { prng.below(9) };
-        *count = match prng.below(150) {
-            0 => prng.pick(&[65_536, -65_536]),
-            1..=4 => prng.pick(&[65_537, -65_537, i32::MAX, i32::MIN]),
-            _ => prng.below((1 << bits) + 1) as i32 - (1 << bits) / 2,
-        };
-    }
-    let start = exact_length_bytes(prng, 128);
-    Call::jump(start, counts, lent_length(prng, 128))
-}
-
-fn random_settings(prng: &mut Prng) -> (u32, u32) {
-    let (mut mode, mut rounds) = (prng.pick(&[OPP, MRO]), prng.pick(ROUNDS));
-    if prng.once_in(40) {
-        mode = prng.pick(&[0, 3, 256, 257, 1 << 31, u32::MAX]);
-    }
-    if prng.once_in(40) {
-        rounds = prng.pick(&[0, 1, 3, 5, 7, 9, 10, 11, 13, 260, u32::MAX]);
-    }
-    (mode, rounds)
+fn message(prng: &mut Prng, max: usize) -> Vec<u8> {
+    let len = length(prng, max);
+    prng.bytes(len)
 }
 
 /// `len` bytes, now and then one more or less, or none.

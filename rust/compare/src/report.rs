@@ -1,15 +1,12 @@
 //! Counting what agrees, and showing what does not.
 
 use crate::call::Call;
-use crate::library::{expected, Library};
-use std::ops::Range;
+use crate::library::{Held, Lent, Library};
+use std::ops::{Deref, DerefMut};
 
-/// Bytes or words watched on both sides of a buffer that is written, and what they hold.
+/// Words watched on both sides of a buffer that is written, and what they hold.
 const MARGIN: usize = 64;
-const MARGIN_BYTE: u8 = 0xa5;
 const MARGIN_WORD: u64 = 0xa5a5_a5a5_a5a5_a5a5;
-/// Such a buffer begins at a multiple of so many bytes, as a variable of C does.
-const ALIGNMENT: usize = 8;
 /// Failures shown of one check.
 const SHOWN: u64 = 10;
 
@@ -41,14 +38,14 @@ impl Tally {
 }
 
 /// One check of a library.
-pub struct Check<'a> {
-    pub library: &'a Library,
+pub struct Check {
+    pub library: Library,
     pub tally: Tally,
 }
 
-impl<'a> Check<'a> {
+impl Check {
     /// Nothing counted yet.
-    pub fn new(library: &'a Library) -> Self {
+    pub fn new(library: Library) -> Self {
         let tally = Tally::default();
         Self { library, tally }
     }
@@ -59,68 +56,95 @@ impl<'a> Check<'a> {
     }
 
     /// Compares `call` and counts whether it answers `wanted`, which a call that both sides refuse
-    /// does not. Returns the output.
-    pub fn answers(&mut self, call: &Call, wanted: u64) -> Vec<u8> {
-        let (answer, output) = self.compare(call);
+    /// does not. Returns the arguments afterwards.
+    pub fn answers(&mut self, call: &Call, wanted: u64) -> Call {
+        let (answer, after) = self.compare(call);
         self.record(answer == wanted, || {
             format!("{call}: answer {answer:#x}, to be {wanted:#x}")
         });
-        output
+        after
+    }
+
+    /// Compares `call` and holds it against its law. Returns the answer and the arguments afterwards.
+    pub fn obeys(&mut self, call: &Call) -> (u64, Call) {
+        let (answer, after) = self.compare(call);
+        (call.entry.law)(self, call, answer, &after);
+        (answer, after)
     }
 
     /// Makes `call` and compares the answer and every byte with the second implementation. Returns
-    /// the answer and the output.
-    pub fn compare(&mut self, call: &Call) -> (u64, Vec<u8>) {
-        let (answer, output, _) = self.compare_words(call);
-        (answer, output)
-    }
-
-    /// The same, and the words besides.
-    pub fn compare_words(&mut self, call: &Call) -> (u64, Vec<u8>, Vec<u64>) {
-        let inputs = call.slices();
-        let before = call.inputs.clone();
-        let mut output = Watched::new(&call.output, MARGIN_BYTE);
-        let mut words = Watched::new(&call.words, MARGIN_WORD);
-        let (mut wanted, mut wanted_words) = (output.clone(), words.clone());
-        let wanted_answer = expected(call.entry, &inputs, wanted.lent(), wanted_words.lent());
-        let (library, lent) = (self.library, (output.lent(), words.lent()));
-        let answer = library.call_with_words(call.entry, &inputs, lent.0, lent.1, true);
-        let unchanged = call.inputs == before;
-        let same = output == wanted && words == wanted_words;
-        self.record(answer == wanted_answer && same && unchanged, || {
-            let (byte, word) = (output.differs(&wanted), words.differs(&wanted_words));
-            format!(
-                "{call}: answer {answer:#x}, expected {wanted_answer:#x}; output differs first at \
-                 {byte:?}, words at {word:?}; inputs unchanged: {unchanged}"
-            )
+    /// the answer and the arguments afterwards.
+    pub fn compare(&mut self, call: &Call) -> (u64, Call) {
+        let mut wanted = Lent::new(call, |bytes| bytes, Watched::new);
+        let mut lent = Lent::new(call, <[u8]>::to_vec, Watched::new);
+        let wanted_answer = wanted.call(Library::Reference, false);
+        let answer = lent.call(self.library, true);
+        let pairs = lent.held.iter().zip(&wanted.held);
+        let mut differing = call
+            .entry
+            .args
+            .iter()
+            .zip(pairs)
+            .filter_map(|(arg, (held, wanted))| Some((arg, differs(held, wanted)?)));
+        let difference = differing.next();
+        self.record(answer == wanted_answer && difference.is_none(), || {
+            format!("{call}: answer {answer:#x}, expected {wanted_answer:#x}; {difference:?}")
         });
-        (answer, output.lent().to_vec(), words.lent().to_vec())
+        (answer, lent.now())
     }
 }
 
-/// A copy of a buffer that is lent to be written, with watched room on both sides.
-#[derive(Clone, PartialEq)]
-struct Watched<T> {
-    all: Vec<T>,
-    lent: Range<usize>,
+/// Where two buffers differ first, counted from where they begin.
+fn differs(held: &Held<Vec<u8>, Watched>, wanted: &Held<&[u8], Watched>) -> Option<isize> {
+    let (bytes, others, margin) = match (held, wanted) {
+        (Held::Read(bytes), Held::Read(others)) => (&bytes[..], *others, 0),
+        (Held::Written(bytes), Held::Written(others)) => (bytes.all(), others.all(), 8 * MARGIN),
+        _ => return None,
+    };
+    if bytes == others {
+        return None;
+    }
+    let at = bytes.iter().zip(others).position(|(a, b)| a != b)?;
+    Some(at as isize - margin as isize)
 }
 
-impl<T: Copy + PartialEq> Watched<T> {
-    fn new(lent: &[T], margin: T) -> Self {
-        let mut all = vec![margin; lent.len() + 2 * MARGIN + ALIGNMENT];
-        let begin = MARGIN + all[MARGIN..].as_ptr().align_offset(ALIGNMENT);
-        let range = begin..begin + lent.len();
-        all[range.clone()].copy_from_slice(lent);
-        Self { all, lent: range }
+/// A copy of a buffer that is lent to be written, aligned as words are, with watched room on both
+/// sides.
+pub struct Watched {
+    words: Vec<u64>,
+    len: usize,
+}
+
+impl Watched {
+    pub fn new(lent: &[u8]) -> Self {
+        let words = vec![MARGIN_WORD; lent.len().div_ceil(8) + 2 * MARGIN];
+        let mut watched = Self {
+            words,
+            len: lent.len(),
+        };
+        watched.copy_from_slice(lent);
+        watched
     }
 
-    fn lent(&mut self) -> &mut [T] {
-        &mut self.all[self.lent.clone()]
+    /// With the room on both sides.
+    fn all(&self) -> &[u8] {
+        // SAFETY: the bytes of words are bytes.
+        unsafe { self.words.align_to().1 }
     }
+}
 
-    /// Where the two differ first, counted from where the buffer begins.
-    fn differs(&self, other: &Self) -> Option<isize> {
-        let at = self.all.iter().zip(&other.all).position(|(a, b)| a != b)?;
-        Some(at as isize - self.lent.start as isize)
+impl Deref for Watched {
+    type Target = [u8];
+
+    fn deref(&self) -> &[u8] {
+        &self.all()[8 * MARGIN..][..self.len]
+    }
+}
+
+impl DerefMut for Watched {
+    fn deref_mut(&mut self) -> &mut [u8] {
+        // SAFETY: the bytes of words are bytes, and any eight bytes are a word.
+        let all = unsafe { self.words.align_to_mut().1 };
+        &mut all[8 * MARGIN..][..self.len]
     }
 }

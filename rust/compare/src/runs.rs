@@ -1,6 +1,8 @@
 //! Seal and open with their masks from a run of words in a lent buffer.
 
 use crate::call::Call;
+use crate::calls::{OPEN_RUN, SEAL_RUN};
+use crate::entry::Arg::{Message, Output, Parcel, Words};
 use crate::library::{refusal, Library};
 use crate::prng::Prng;
 use crate::report::{Check, Tally};
@@ -11,7 +13,7 @@ const LEFTOVERS: [usize; 3] = [0, 1, 127];
 
 /// Messages of 0 to 20 whole blocks, which leave every rest of four several times, and the longest,
 /// beside headers of all counts, so of fewer whole blocks, of as many and of more.
-pub fn run(library: &Library, seed: u64) -> Tally {
+pub fn run(library: Library, seed: u64) -> Tally {
     let mut prng = Prng::new(seed);
     let mut check = Check::new(library);
     for (mode, rounds) in settings() {
@@ -22,11 +24,16 @@ pub fn run(library: &Library, seed: u64) -> Tally {
                 let header_len = 128 * header_blocks + prng.pick(&LEFTOVERS);
                 let header_len = header_len.min(MAX_HEADER_LEN);
                 let seal = Call::seal(&mut prng, mode, rounds, header_len, len);
-                seal_and_open(&mut prng, &mut check, &seal);
+                for call in [
+                    seal.turned(&SEAL_RUN),
+                    seal.on_parcel(&OPEN_RUN, Start::New),
+                ] {
+                    with_words(&mut prng, &mut check, call, len);
+                }
             }
             let len = (128 * blocks + 9).min(MAX_MESSAGE_LEN);
             let seal = Call::seal(&mut prng, mode, rounds, 200, len);
-            every_block_damaged(&mut prng, &mut check, seal);
+            every_block_damaged(&mut prng, &mut check, &seal);
         }
     }
     check.tally
@@ -37,87 +44,66 @@ fn header_blocks(blocks: usize) -> impl Iterator<Item = usize> {
     (0..=MAX_HEADER_LEN / 128).step_by(if blocks > 20 { 8 } else { 1 })
 }
 
-fn seal_and_open(prng: &mut Prng, check: &mut Check, seal: &Call) {
-    let len = seal.inputs[3].len();
-    let answer = |value| {
-        if len > MAX_MESSAGE_LEN {
-            refusal(6, 0)
-        } else {
-            value as u64
-        }
+/// A call on a message of `len` bytes or its parcel, in one word too few, in as many as its run has,
+/// in more, and in what such a call left there but for a bit.
+fn with_words(prng: &mut Prng, check: &mut Check, call: Call, len: usize) {
+    let needed = call.needed(Words);
+    let more = needed + 8 * (1 + prng.below(9));
+    let [few, enough, more, before] = [needed - 8, needed, more, needed].map(|len| prng.bytes(len));
+    let done = call[Output].len() as u64;
+    let [few_answer, done] = match len > MAX_MESSAGE_LEN {
+        true => [refusal(6, 0); 2],
+        false => [refusal(7, 0), done],
     };
-    with_words(prng, check, seal, answer(len + 32));
-    let parcel = seal.parcel(Start::New);
-    let open = seal.clone().into_open(Start::New, parcel, len);
-    with_words(prng, check, &open, answer(len));
-}
-
-/// A call that answers `done` with words enough, in one word too few, in as many as its run has, in
-/// more, and in what such a call left there but for a bit.
-fn with_words(prng: &mut Prng, check: &mut Check, call: &Call, done: u64) {
-    let len = call.run_len();
-    let few = if done >> 32 == 0 { refusal(7, 0) } else { done };
-    let more = len + 1 + prng.below(9);
+    let (_, mut left) = check.compare(&call.clone().with(Words, before));
+    left[Words][prng.below(needed)] ^= 1 << prng.below(8);
     for (words, wanted) in [
-        (prng.words(len - 1), few),
-        (prng.words(len), done),
-        (prng.words(more), done),
-        (almost_left(prng, check, call), done),
+        (few, few_answer),
+        (enough, done),
+        (more, done),
+        (std::mem::take(&mut left[Words]), done),
     ] {
-        let call = call.clone().into_run(words);
-        let (answer, _) = compare(check, &call);
+        let call = call.clone().with(Words, words);
+        let (answer, _) = check.obeys(&call);
         check.record(answer == wanted, || {
             format!("{call}: answer {answer:#x}, to be {wanted:#x}")
         });
     }
 }
 
-/// The words that a call leaves, with one bit changed.
-fn almost_left(prng: &mut Prng, check: &mut Check, call: &Call) -> Vec<u64> {
-    let words = prng.words(call.run_len());
-    let (.., mut left) = check.compare_words(&call.clone().into_run(words));
-    let at = prng.below(left.len());
-    left[at] ^= 1 << prng.below(64);
-    left
-}
-
 /// A bit of each block of the parcel changed, and one behind the blocks. Of a long parcel only the
 /// first and the last eight blocks.
-fn every_block_damaged(prng: &mut Prng, check: &mut Check, seal: Call) {
-    let len = seal.inputs[3].len();
-    let parcel = seal.parcel(Start::New);
-    let open = seal.into_open(Start::New, parcel, len);
-    let words = prng.words(open.run_len() + 2);
-    let good = open.into_run(words);
+fn every_block_damaged(prng: &mut Prng, check: &mut Check, seal: &Call) {
+    let len = seal[Message].len();
+    let good = seal.on_parcel(&OPEN_RUN, Start::New);
+    let words = prng.bytes(good.needed(Words) + 16);
+    let good = good.with(Words, words);
     let blocks = len / 128;
     for block in (0..=blocks).filter(|&block| blocks <= 20 || block < 8 || block + 8 > blocks) {
         let mut call = good.clone();
-        let damaged = &mut call.inputs[3][128 * block..];
+        let damaged = &mut call[Parcel][128 * block..];
         let at = prng.below(damaged.len().min(128));
         damaged[at] ^= 1 << prng.below(8);
-        let (answer, output) = compare(check, &call);
-        let passed = answer == refusal(9, 0) && output == vec![0; len];
+        let (answer, after) = check.obeys(&call);
+        let passed = answer == refusal(9, 0) && after[Output] == vec![0; len];
         check.record(passed, || format!("{call}: block {block} damaged"));
     }
 }
 
-/// Compares a call that takes words. With words enough for the run it has to answer and to write
-/// what the stepping call does; behind the run, and where it is refused with another number than 9,
-/// it has to change no word. Returns the answer and the output.
-pub fn compare(check: &mut Check, call: &Call) -> (u64, Vec<u8>) {
-    let (answer, output, words) = check.compare_words(call);
-    let stepping = check.compare(&call.stepping());
-    let after = (answer, output);
-    if call.words.len() >= call.run_len() {
-        check.record(after == stepping, || {
-            format!("{call}: not as the stepping call")
-        });
+/// With words enough for the run, a call has to answer and to write what the stepping call does; behind
+/// the run, and where it is refused with another number than 9, it has to change no word.
+pub fn law(check: &mut Check, call: &Call, answer: u64, after: &Call) {
+    let stepping = call.entry.stepping.expect("a stepping call");
+    let stepping = call.turned(stepping).with(Output, call[Output].clone());
+    let (stepped, stepping) = check.compare(&stepping);
+    if call[Words].len() >= call.needed(Words) {
+        let same = answer == stepped && after[Output] == stepping[Output];
+        check.record(same, || format!("{call}: not as the stepping call"));
     }
     let written = match answer >> 32 {
-        0 | 9 => call.run_len(),
+        0 | 9 => call.needed(Words),
         _ => 0,
     };
-    let kept = words.get(written..) == call.words.get(written..);
+    let kept = after[Words].get(written..) == call[Words].get(written..);
     check.record(kept, || format!("{call}: a word changed"));
-    after
 }

@@ -39,7 +39,7 @@ const FULL: u32 = 15;
 const NUMBERS: u32 = 16;
 
 /// A sale as it is handed in.
-#[derive(Clone, Copy, Debug, PartialEq, Eq)]
+#[derive(Clone, Copy, Debug, Default, PartialEq, Eq)]
 pub struct Sale {
     /// The machine's number.
     pub machine: u32,

@@ -1,7 +1,8 @@
 //! Stores damaged in every way, each under all calls.
 
-use crate::call::{Call, Entry};
-use crate::grounds::STORE_ENTRIES;
+use crate::call::Call;
+use crate::calls::{self, on_numbers, on_store, CANCEL, FORMAT, READ, TAKE, TOTAL};
+use crate::entry::Arg;
 use crate::library::{refusal, Library};
 use crate::met::Met;
 use crate::prng::Prng;
@@ -19,11 +20,11 @@ const LENGTHS: [usize; 20] = [
 
 /// Every way alone, every two of them, lengths, every bit of a sale, two sales alike, and all shapes
 /// of small stores.
-pub fn run(library: &Library, seed: u64) -> Tally {
+pub fn run(library: Library, seed: u64) -> Tally {
     let mut prng = Prng::new(seed);
     let mut run = Run {
         check: Check::new(library),
-        met: Met::new(&STORE_ENTRIES),
+        met: Met::new(calls::of_store()),
     };
     run.one_by_one(&mut prng);
     run.two_at_once(&mut prng);
@@ -36,12 +37,12 @@ pub fn run(library: &Library, seed: u64) -> Tally {
     run.check.tally
 }
 
-struct Run<'a> {
-    check: Check<'a>,
+struct Run {
+    check: Check,
     met: Met,
 }
 
-impl Run<'_> {
+impl Run {
     /// Compares a call. Returns its answer.
     fn compare(&mut self, call: &Call) -> u64 {
         let (answer, _) = self.check.compare(call);
@@ -83,7 +84,7 @@ impl Run<'_> {
             };
             *done += 1;
             for (call, &before) in calls.iter().zip(&before) {
-                let call = call.on(&damaged.bytes);
+                let call = call.clone().with(Arg::Store, damaged.bytes.clone());
                 match wanted(&call, sound, before, effect) {
                     Some(wanted) => self.answers(&call, wanted, name),
                     None => drop(self.compare(&call)),
@@ -104,7 +105,7 @@ impl Run<'_> {
                     first(prng, &mut damaged);
                     second(prng, &mut damaged);
                     for call in &calls {
-                        self.compare(&call.on(&damaged.bytes));
+                        self.compare(&call.clone().with(Arg::Store, damaged.bytes.clone()));
                     }
                 }
             }
@@ -138,14 +139,14 @@ impl Run<'_> {
             let body = damaged.body_mut(cell);
             body[bit / 8] ^= 1 << (bit % 8);
             let number = |at: usize| u32::from_le_bytes(body[at..at + 4].try_into().expect("four"));
-            let (machine, sale) = (number(0), number(4));
+            let numbers = (number(0), number(4));
             let (key, store) = (&damaged.key, &damaged.bytes);
             let shut = refusal(9, cell as u32);
             let name = format!("bit {bit} of a sale");
-            self.answers(&Call::total(key, store), shut, &name);
-            if (machine, sale) != (sound.sold[0].machine, sound.sold[0].sale) {
-                let cancel = Call::cancel(key, store, machine, sale);
-                self.answers(&cancel, shut, &name);
+            let on = |entry| on_numbers(entry, key, store, numbers);
+            self.answers(&on(&TOTAL), shut, &name);
+            if numbers != (sound.sold[0].machine, sound.sold[0].sale) {
+                self.answers(&on(&CANCEL), shut, &name);
             }
         }
     }
@@ -175,17 +176,16 @@ impl Run<'_> {
     /// The calls on a store with two sales alike, by the place of the first of them and what cancel
     /// and total have to answer.
     fn alike_answers(&mut self, store: &Sound, first: usize, wanted: [u64; 2]) {
-        let (key, bytes, sold) = (&store.key, &store.bytes, &store.sold[first]);
-        let (machine, sale) = (sold.machine, sold.sale);
         let offset = CELL_LEN * store.chains[0][first] + BODY_AT;
-        let name = "two sales alike";
-        let cancel = Call::cancel(key, bytes, machine, sale);
-        self.answers(&cancel, wanted[0], name);
-        self.answers(&Call::total(key, bytes), wanted[1], name);
-        let read = Call::read(bytes, machine, sale);
-        self.answers(&read, offset as u64, name);
-        let take = Call::take(key, bytes, sold);
-        self.answers(&take, refusal(16, 0), name);
+        for (entry, wanted) in [
+            (&CANCEL, wanted[0]),
+            (&TOTAL, wanted[1]),
+            (&READ, offset as u64),
+            (&TAKE, refusal(16, 0)),
+        ] {
+            let call = on_store(entry, &store.key, &store.bytes, &store.sold[first]);
+            self.answers(&call, wanted, "two sales alike");
+        }
     }
 }
 
@@ -195,15 +195,17 @@ fn allowed(len: usize) -> bool {
 
 /// What `call` has to answer where `sound` was damaged with that effect, by its answer before.
 fn wanted(call: &Call, sound: &Sound, before: u64, effect: Effect) -> Option<u64> {
-    let answered = before >> 32 == 0;
-    Some(match (effect, call.entry) {
-        (Effect::Other, _) => return None,
-        (_, Entry::Format) if allowed(call.output.len()) => 0,
-        (_, Entry::Format) => refusal(14, 0),
-        (Effect::Form, _) if before != refusal(3, 0) => refusal(14, 0),
-        (Effect::Shut(shut), Entry::Total) if answered => refusal(9, shut as u32),
-        (Effect::Shut(shut), Entry::Cancel { machine, sale })
-            if answered && sound.cell_of(machine, sale) == Some(shut) =>
+    let entry = call.entry;
+    let named = || sound.cell_of(call.number(Arg::Machine), call.number(Arg::Sale));
+    Some(match effect {
+        Effect::Other => return None,
+        _ if entry.name == FORMAT.name && allowed(call[Arg::Store].len()) => 0,
+        _ if entry.name == FORMAT.name => refusal(14, 0),
+        Effect::Form if before != refusal(3, 0) => refusal(14, 0),
+        Effect::Shut(shut)
+            if before >> 32 == 0
+                && entry.refuses(9)
+                && (!entry.takes(Arg::Machine) || named() == Some(shut)) =>
         {
             refusal(9, shut as u32)
         }

@@ -1,7 +1,9 @@
 //! Histories of a store: thousands of calls from a format on, held against a ledger.
 
 use crate::call::Call;
-use crate::grounds::STORE_ENTRIES;
+use crate::calls::{self, on_numbers, on_store, CANCEL, FORMAT, READ, TAKE, TOTAL};
+use crate::entry::Arg::{Key, Store, Total};
+use crate::entry::Entry;
 use crate::library::{refusal, Library};
 use crate::met::Met;
 use crate::prng::Prng;
@@ -17,10 +19,10 @@ const ONE_KEY: [usize; 16] = [
 const SEVERAL_KEYS: [usize; 8] = [2, 3, 5, 9, 17, 65, 256, 1023];
 
 /// A history for each size. The ledger says what each call has to answer.
-pub fn run(library: &Library, seed: u64) -> Tally {
+pub fn run(library: Library, seed: u64) -> Tally {
     let mut prng = Prng::new(seed);
     let mut check = Check::new(library);
-    let mut met = Met::new(&STORE_ENTRIES);
+    let mut met = Met::new(calls::of_store());
     let one = ONE_KEY.map(|cells| (cells, 1));
     let several = SEVERAL_KEYS.map(|cells| (cells, 3));
     for (cells, keys) in one.into_iter().chain(several) {
@@ -38,9 +40,9 @@ struct Line {
     cell: u32,
 }
 
-struct History<'a, 'b> {
+struct History<'a> {
     prng: &'a mut Prng,
-    check: &'a mut Check<'b>,
+    check: &'a mut Check,
     met: &'a mut Met,
     /// The keys that sales are taken under, and behind them one that none is.
     keys: Vec<Vec<u8>>,
@@ -49,10 +51,10 @@ struct History<'a, 'b> {
     ledger: Vec<Line>,
 }
 
-impl<'a, 'b> History<'a, 'b> {
+impl<'a> History<'a> {
     fn new(
         prng: &'a mut Prng,
-        check: &'a mut Check<'b>,
+        check: &'a mut Check,
         met: &'a mut Met,
         cells: usize,
         keys: usize,
@@ -110,28 +112,35 @@ impl<'a, 'b> History<'a, 'b> {
     }
 
     /// Compares a call and counts whether it answers `wanted`; one that is refused changes nothing.
-    fn answers(&mut self, call: &Call, wanted: u64) -> Vec<u8> {
-        let output = self.check.answers(call, wanted);
+    /// Returns the arguments afterwards.
+    fn answers(&mut self, call: &Call, wanted: u64) -> Call {
+        let after = self.check.answers(call, wanted);
         self.met.add(call, wanted);
         if wanted >> 32 != 0 {
-            let unchanged = output == call.output;
+            let unchanged = after.values == call.values;
             self.check
                 .record(unchanged, || format!("{call}: refused, and changed"));
         }
-        output
+        after
+    }
+
+    /// A call on the store with one of the keys.
+    fn on(&self, entry: &'static Entry, key: usize, numbers: (u32, u32)) -> Call {
+        on_numbers(entry, &self.keys[key], &self.store, numbers)
     }
 
     fn format(&mut self) {
-        self.store = self.answers(&Call::format(&self.store), 0);
+        let formatted = self.answers(&self.on(&FORMAT, 0, (0, 0)), 0);
+        self.store = formatted[Store].clone();
         self.ledger.clear();
     }
 
     fn take(&mut self) {
-        let (machine, sale) = self.numbers();
-        let sold = random_sale(self.prng, machine, sale);
+        let numbers = self.numbers();
+        let sold = random_sale(self.prng, numbers.0, numbers.1);
         let key = self.prng.below(self.keys.len() - 1);
-        let call = Call::take(&self.keys[key], &self.store, &sold);
-        if self.line(machine, sale).is_some() {
+        let call = on_store(&TAKE, &self.keys[key], &self.store, &sold);
+        if self.line(numbers).is_some() {
             self.answers(&call, refusal(16, 0));
             return;
         }
@@ -139,7 +148,7 @@ impl<'a, 'b> History<'a, 'b> {
             self.answers(&call, refusal(15, 0));
             return;
         }
-        let (answer, store) = self.check.compare(&call);
+        let (answer, after) = self.check.compare(&call);
         self.met.add(&call, answer);
         let taken = self
             .ledger
@@ -150,14 +159,14 @@ impl<'a, 'b> History<'a, 'b> {
             .record(free, || format!("{call}: the sale is in cell {answer:#x}"));
         let cell = answer as u32;
         self.ledger.insert(0, Line { sold, key, cell });
-        self.store = store;
+        self.store = after[Store].clone();
     }
 
     fn cancel(&mut self) {
-        let (machine, sale) = self.numbers_often_there();
-        let key = self.key_for(machine, sale);
-        let call = Call::cancel(&self.keys[key], &self.store, machine, sale);
-        let Some(at) = self.line(machine, sale) else {
+        let numbers = self.numbers_often_there();
+        let key = self.key_for(numbers);
+        let call = self.on(&CANCEL, key, numbers);
+        let Some(at) = self.line(numbers) else {
             self.answers(&call, refusal(16, 0));
             return;
         };
@@ -166,7 +175,8 @@ impl<'a, 'b> History<'a, 'b> {
             self.answers(&call, refusal(9, line.cell));
             return;
         }
-        self.store = self.answers(&call, line.sold.amount.into());
+        let after = self.answers(&call, line.sold.amount.into());
+        self.store = after[Store].clone();
         self.ledger.remove(at);
     }
 
@@ -174,7 +184,7 @@ impl<'a, 'b> History<'a, 'b> {
     fn total(&mut self) {
         let key = self.prng.below(self.keys.len());
         let key = if self.prng.once_in(8) { key } else { 0 };
-        let call = Call::total(&self.keys[key], &self.store);
+        let call = self.on(&TOTAL, key, (0, 0));
         let shut = self.ledger.iter().find(|line| line.key != key);
         if let Some(cell) = shut.map(|line| line.cell) {
             self.answers(&call, refusal(9, cell));
@@ -182,50 +192,45 @@ impl<'a, 'b> History<'a, 'b> {
         }
         let coins = self.ledger.iter().filter(|line| line.sold.means == COIN);
         let cash: u64 = coins.map(|line| u64::from(line.sold.amount)).sum();
-        let total = self.answers(&call, 0);
-        self.check.record(total == cash.to_ne_bytes(), || {
+        let total = &self.answers(&call, 0)[Total];
+        self.check.record(*total == cash.to_ne_bytes(), || {
             format!("{call}: the total is {total:x?}, the ledger's {cash}")
         });
     }
 
     fn read(&mut self) {
-        let (machine, sale) = self.numbers_often_there();
-        let call = Call::read(&self.store, machine, sale);
-        let wanted = match self.line(machine, sale) {
+        let numbers = self.numbers_often_there();
+        let wanted = match self.line(numbers) {
             Some(at) => CELL_LEN as u64 * u64::from(self.ledger[at].cell) + BODY_AT as u64,
             None => refusal(16, 0),
         };
-        self.answers(&call, wanted);
+        self.answers(&self.on(&READ, 0, numbers), wanted);
     }
 
-    /// Calls with a key of another length, and with a part of the store.
+    /// Every call with a key of another length, with a part of the store, and with both.
     fn refused(&mut self) {
         let (machine, sale) = self.numbers_often_there();
         let sold = random_sale(self.prng, machine, sale);
         let key = self.prng.pick(&[0, 1, 31, 33, 64]);
         let key = self.prng.bytes(key);
         let cut = CELL_LEN * self.prng.below(self.cells()) + 1 + self.prng.below(CELL_LEN - 1);
-        let part = &self.store[..self.prng.pick(&[0, CELL_LEN, cut, cut])];
-        let keyless = [Call::format(part), Call::read(part, machine, sale)];
-        let keyed = |key, store| {
-            [
-                Call::take(key, store, &sold),
-                Call::cancel(key, store, machine, sale),
-                Call::total(key, store),
-            ]
-        };
-        let short = keyed(&key, &self.store).map(|call| (call, 3));
-        let cut = keyed(&self.keys[0], part).map(|call| (call, 14));
-        let both = keyed(&key, part).map(|call| (call, 3));
-        let keyless = keyless.map(|call| (call, 14));
-        for (call, number) in short.into_iter().chain(cut).chain(both).chain(keyless) {
-            self.answers(&call, refusal(number, 0));
+        let part = self.store[..self.prng.pick(&[0, CELL_LEN, cut, cut])].to_vec();
+        for entry in calls::of_store() {
+            let on = |key: &[u8], store: &[u8]| on_store(entry, key, store, &sold);
+            let cut = on(&self.keys[0], &part);
+            let short = entry
+                .takes(Key)
+                .then(|| [on(&key, &self.store), on(&key, &part)]);
+            self.answers(&cut, refusal(14, 0));
+            for call in short.into_iter().flatten() {
+                self.answers(&call, refusal(3, 0));
+            }
         }
     }
 
     /// Where in the ledger a sale is.
-    fn line(&self, machine: u32, sale: u32) -> Option<usize> {
-        let same = |line: &Line| (line.sold.machine, line.sold.sale) == (machine, sale);
+    fn line(&self, numbers: (u32, u32)) -> Option<usize> {
+        let same = |line: &Line| (line.sold.machine, line.sold.sale) == numbers;
         self.ledger.iter().position(same)
     }
 
@@ -248,8 +253,8 @@ impl<'a, 'b> History<'a, 'b> {
     }
 
     /// Mostly the key of that sale.
-    fn key_for(&mut self, machine: u32, sale: u32) -> usize {
-        match self.line(machine, sale) {
+    fn key_for(&mut self, numbers: (u32, u32)) -> usize {
+        match self.line(numbers) {
             Some(at) if !self.prng.once_in(10) => self.ledger[at].key,
             _ => self.prng.below(self.keys.len()),
         }

@@ -1,6 +1,8 @@
 //! Sound stores in any layout, and all calls on them.
 
 use crate::call::Call;
+use crate::calls::{of_store, on_store};
+use crate::entry::Arg;
 use crate::prng::Prng;
 use reference::store::{Sale, BODY_AT, BODY_LEN, CELL_LEN, FREE, ROUNDS, SALE};
 use reference::{seal_under, Start, MRO, NONCE_LEN};
@@ -74,24 +76,35 @@ impl Sound {
         Some(self.chains[0][place])
     }
 
-    /// Every call on this store, those with a sale for its first, its last and one that it has not.
+    /// Every call on this store: those on a sale for its first, its last and one that it has not, those
+    /// with a key under another and under one that is too short besides.
     pub fn calls(&self, prng: &mut Prng) -> Vec<Call> {
-        let (key, store) = (&self.key, &self.bytes);
         let absent = random_sale(prng, 7, u32::MAX);
         let ends = self.sold.first().into_iter().chain(self.sold.last());
-        let mut calls = vec![Call::format(store), Call::total(key, store)];
-        for sold in ends.chain([&absent]) {
-            let (machine, sale) = (sold.machine, sold.sale);
-            calls.push(Call::take(key, store, sold));
-            calls.push(Call::cancel(key, store, machine, sale));
-            calls.push(Call::read(store, machine, sale));
-        }
+        let sales: Vec<&Sale> = ends.chain([&absent]).collect();
+        let named = self.sold.last().unwrap_or(&absent);
         let other = prng.bytes(32);
-        for key in [&other, &key[1..]] {
-            calls.push(Call::take(key, store, &absent));
-            calls.push(Call::total(key, store));
-            let named = self.sold.last().unwrap_or(&absent);
-            calls.push(Call::cancel(key, store, named.machine, named.sale));
+        let mut calls = Vec::new();
+        for entry in of_store() {
+            let sales = if entry.takes(Arg::Machine) {
+                &sales[..]
+            } else {
+                &[&absent]
+            };
+            calls.extend(
+                sales
+                    .iter()
+                    .map(|sold| on_store(entry, &self.key, &self.bytes, sold)),
+            );
+            let sold = if entry.takes(Arg::Tail) {
+                &absent
+            } else {
+                named
+            };
+            if entry.takes(Arg::Key) {
+                let keys = [&other, &self.key[1..]];
+                calls.extend(keys.map(|key| on_store(entry, key, &self.bytes, sold)));
+            }
         }
         calls
     }
