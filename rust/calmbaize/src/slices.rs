@@ -5,10 +5,30 @@
 //! one slice from another; [`Aead`](crate::Aead), [`walk`](crate::walk()), [`jump`](crate::jump())
 //! and [`Store`](crate::Store) tell them apart by type.
 
+/// Makes a C call. A buffer, with `&` or `&mut` before its name, goes as its pointer and its length.
+macro_rules! call {
+    ($function:ident($($argument:tt)*)) => {
+        call!(@ $function [] $($argument)*,)
+    };
+    (@ $function:ident [$($done:tt)*] $(,)?) => {
+        // SAFETY: each pointer is valid for its length, or for what the call takes, and a mutable
+        // borrow overlaps no other.
+        unsafe { crate::ffi::$function($($done)*) }
+    };
+    (@ $function:ident [$($done:tt)*] &mut $buffer:ident, $($rest:tt)*) => {
+        call!(@ $function [$($done)* $buffer.as_mut_ptr(), $buffer.len(),] $($rest)*)
+    };
+    (@ $function:ident [$($done:tt)*] &$buffer:ident, $($rest:tt)*) => {
+        call!(@ $function [$($done)* $buffer.as_ptr(), $buffer.len(),] $($rest)*)
+    };
+    (@ $function:ident [$($done:tt)*] $argument:expr, $($rest:tt)*) => {
+        call!(@ $function [$($done)* $argument,] $($rest)*)
+    };
+}
+
 pub mod store;
 
-use crate::ffi;
-use crate::Refusal;
+use crate::{ffi, Refusal};
 
 /// Encrypts and authenticates `message`, authenticates `header`, and writes the parcel to the
 /// first `message.len() + TAG_LEN` bytes of `output`.
@@ -39,8 +59,15 @@ pub fn seal(
     message: &[u8],
     output: &mut [u8],
 ) -> Result<usize, Refusal> {
-    let inputs = [key, nonce, header, message];
-    answer(Call::Seal, mode, rounds, inputs, output)
+    value(call!(calmbaize_seal(
+        mode,
+        rounds,
+        &key,
+        &nonce,
+        &header,
+        &message,
+        &mut output
+    )))
 }
 
 /// Verifies and decrypts `parcel` and writes its message to the first `parcel.len() - TAG_LEN`
@@ -74,8 +101,15 @@ pub fn open(
     parcel: &[u8],
     output: &mut [u8],
 ) -> Result<usize, Refusal> {
-    let inputs = [key, nonce, header, parcel];
-    answer(Call::Open, mode, rounds, inputs, output)
+    value(call!(calmbaize_open(
+        mode,
+        rounds,
+        &key,
+        &nonce,
+        &header,
+        &parcel,
+        &mut output
+    )))
 }
 
 /// Verifies and decrypts `parcel` as [`open`] does, but under the old start, that of versions before
@@ -106,8 +140,15 @@ pub fn open_old(
     parcel: &[u8],
     output: &mut [u8],
 ) -> Result<usize, Refusal> {
-    let inputs = [key, nonce, header, parcel];
-    answer(Call::OpenOld, mode, rounds, inputs, output)
+    value(call!(calmbaize_open_old(
+        mode,
+        rounds,
+        &key,
+        &nonce,
+        &header,
+        &parcel,
+        &mut output
+    )))
 }
 
 /// Seals the message of `parcel`, one of the old start, again under the new start with the same
@@ -144,8 +185,15 @@ pub fn convert(
     parcel: &[u8],
     output: &mut [u8],
 ) -> Result<usize, Refusal> {
-    let inputs = [key, nonce, header, parcel];
-    answer(Call::Convert, mode, rounds, inputs, output)
+    value(call!(calmbaize_convert(
+        mode,
+        rounds,
+        &key,
+        &nonce,
+        &header,
+        &parcel,
+        &mut output
+    )))
 }
 
 /// Seals as [`seal`] does, the same parcel, with all masks from one run of words, which it makes in
@@ -183,8 +231,16 @@ pub fn seal_run(
     output: &mut [u8],
     words: &mut [u64],
 ) -> Result<usize, Refusal> {
-    let inputs = [key, nonce, header, message];
-    answer_from_run(RunCall::Seal, mode, rounds, inputs, output, words)
+    value(call!(calmbaize_seal_run(
+        mode,
+        rounds,
+        &key,
+        &nonce,
+        &header,
+        &message,
+        &mut output,
+        &mut words
+    )))
 }
 
 /// Opens as [`open`] does, with all masks from one run of words, which it makes in `words`. It opens
@@ -222,8 +278,16 @@ pub fn open_run(
     output: &mut [u8],
     words: &mut [u64],
 ) -> Result<usize, Refusal> {
-    let inputs = [key, nonce, header, parcel];
-    answer_from_run(RunCall::Open, mode, rounds, inputs, output, words)
+    value(call!(calmbaize_open_run(
+        mode,
+        rounds,
+        &key,
+        &nonce,
+        &header,
+        &parcel,
+        &mut output,
+        &mut words
+    )))
 }
 
 /// Writes the block reached from `start` by the step bytes `steps` to the first
@@ -248,17 +312,7 @@ pub fn open_run(
 /// assert_eq!((refusal.ground, refusal.place), (Ground::Step, 1));
 /// ```
 pub fn walk(start: &[u8], steps: &[u8], output: &mut [u8]) -> Result<usize, Refusal> {
-    // SAFETY: each pointer is valid for its length, and a mutable borrow overlaps no other.
-    value(unsafe {
-        ffi::calmbaize_walk(
-            start.as_ptr(),
-            start.len(),
-            steps.as_ptr(),
-            steps.len(),
-            output.as_mut_ptr(),
-            output.len(),
-        )
-    })
+    value(call!(calmbaize_walk(&start, &steps, &mut output)))
 }
 
 /// Writes the block after `alpha`, then `beta`, then `gamma` steps from `start`, back steps where
@@ -288,97 +342,13 @@ pub fn jump(
     gamma: i32,
     output: &mut [u8],
 ) -> Result<usize, Refusal> {
-    // SAFETY: each pointer is valid for its length, and a mutable borrow overlaps no other.
-    value(unsafe {
-        ffi::calmbaize_jump(
-            start.as_ptr(),
-            start.len(),
-            alpha,
-            beta,
-            gamma,
-            output.as_mut_ptr(),
-            output.len(),
-        )
-    })
-}
-
-/// The calls that take the same arguments.
-enum Call {
-    Seal,
-    Open,
-    OpenOld,
-    Convert,
-}
-
-fn answer(
-    call: Call,
-    mode: u32,
-    rounds: u32,
-    [key, nonce, header, input]: [&[u8]; 4],
-    output: &mut [u8],
-) -> Result<usize, Refusal> {
-    let function = match call {
-        Call::Seal => ffi::calmbaize_seal,
-        Call::Open => ffi::calmbaize_open,
-        Call::OpenOld => ffi::calmbaize_open_old,
-        Call::Convert => ffi::calmbaize_convert,
-    };
-    // SAFETY: each pointer is valid for its length, and a mutable borrow overlaps no other.
-    value(unsafe {
-        function(
-            mode,
-            rounds,
-            key.as_ptr(),
-            key.len(),
-            nonce.as_ptr(),
-            nonce.len(),
-            header.as_ptr(),
-            header.len(),
-            input.as_ptr(),
-            input.len(),
-            output.as_mut_ptr(),
-            output.len(),
-        )
-    })
-}
-
-/// The calls that are lent words besides.
-enum RunCall {
-    Seal,
-    Open,
-}
-
-fn answer_from_run(
-    call: RunCall,
-    mode: u32,
-    rounds: u32,
-    [key, nonce, header, input]: [&[u8]; 4],
-    output: &mut [u8],
-    words: &mut [u64],
-) -> Result<usize, Refusal> {
-    let function = match call {
-        RunCall::Seal => ffi::calmbaize_seal_run,
-        RunCall::Open => ffi::calmbaize_open_run,
-    };
-    // SAFETY: each pointer is valid for its length, and a mutable borrow overlaps no other.
-    value(unsafe {
-        function(
-            mode,
-            rounds,
-            key.as_ptr(),
-            key.len(),
-            nonce.as_ptr(),
-            nonce.len(),
-            header.as_ptr(),
-            header.len(),
-            input.as_ptr(),
-            input.len(),
-            output.as_mut_ptr(),
-            output.len(),
-            words.as_mut_ptr(),
-            words.len(),
-        )
-    })
+    value(call!(calmbaize_jump(
+        &start,
+        alpha,
+        beta,
+        gamma,
+        &mut output
+    )))
 }
 
 // A value of 32 bits is a `usize` on every machine that can hold the longest message.

@@ -1,10 +1,7 @@
 //! A call with all its arguments.
 
-use crate::calls::{sealing, SEAL};
 use crate::entry::{Arg, Entry, Kind};
-use crate::library::refusal;
-use crate::prng::Prng;
-use reference::{run_len, seal_under, Start, TAG_LEN};
+use reference::{run_len, TAG_LEN};
 use std::fmt;
 use std::ops::{Index, IndexMut};
 
@@ -13,6 +10,11 @@ use std::ops::{Index, IndexMut};
 pub enum Value {
     Number(i64),
     Bytes(Vec<u8>),
+}
+
+impl Value {
+    /// No bytes.
+    pub const NONE: Self = Self::Bytes(Vec::new());
 }
 
 impl From<u32> for Value {
@@ -48,64 +50,21 @@ pub struct Call {
 }
 
 impl Call {
-    /// A call with these values.
-    pub fn new(entry: &'static Entry, values: impl Into<Vec<Value>>) -> Self {
-        let values = values.into();
-        assert_eq!(values.len(), entry.args.len(), "{}", entry.name);
+    /// A call whose arguments have these values.
+    pub fn new(entry: &'static Entry, value: impl FnMut(Arg) -> Value) -> Self {
+        let values = entry.args.iter().copied().map(value).collect();
         Self { entry, values }
-    }
-
-    /// A seal call of random buffers. Its output is as long as the parcel.
-    pub fn seal(prng: &mut Prng, mode: u32, rounds: u32, header_len: usize, len: usize) -> Self {
-        let [key, nonce, header, message] =
-            [32, 16, header_len, len].map(|len| Value::Bytes(prng.bytes(len)));
-        let output = pattern(len + TAG_LEN).into();
-        let settings = [mode, rounds].map(Value::from);
-        let buffers = [key, nonce, header, message, output];
-        Self::new(&SEAL, [&settings[..], &buffers].concat())
     }
 
     /// Another call with the same arguments, as far as this one has them. Its output and its words
     /// are just enough.
     pub fn turned(&self, entry: &'static Entry) -> Self {
-        let value = |&arg: &Arg| match (self.place(arg), arg.kind()) {
+        let value = |arg: Arg| match (self.place(arg), arg.kind()) {
             (Some(place), _) => self.values[place].clone(),
             (_, Kind::Choice(..) | Kind::Count(_) | Kind::Number(_)) => Value::Number(0),
-            _ => Value::Bytes(Vec::new()),
+            _ => Value::NONE,
         };
-        let values: Vec<Value> = entry.args.iter().map(value).collect();
-        Self { entry, values }.fitted()
-    }
-
-    /// Every call that seals or takes a parcel with the arguments of this seal call.
-    pub fn good_calls(&self) -> Vec<Good> {
-        let [new, old] = [Start::New, Start::Old].map(|start| self.parcel(start));
-        let mut calls = Vec::new();
-        for entry in sealing() {
-            let call = self.turned(entry);
-            if entry.takes(Arg::Message) {
-                calls.push(Good::new(call, 0, &new));
-                continue;
-            }
-            for &(start, number) in entry.parcels {
-                let parcel = if start == Start::New { &new } else { &old };
-                let call = call.clone().with(Arg::Parcel, parcel.clone()).fitted();
-                let written = match call.output().len() {
-                    0 => &[][..],
-                    len if len == self[Arg::Message].len() => &self[Arg::Message],
-                    _ => &new,
-                };
-                calls.push(Good::new(call, number, written));
-            }
-        }
-        calls
-    }
-
-    /// A call on the parcel that this seal call has under a start.
-    pub fn on_parcel(&self, entry: &'static Entry, start: Start) -> Self {
-        self.turned(entry)
-            .with(Arg::Parcel, self.parcel(start))
-            .fitted()
+        Self::new(entry, value).fitted()
     }
 
     /// This call with other bytes for an argument.
@@ -187,43 +146,6 @@ impl Call {
     pub fn set(&mut self, arg: Arg, number: impl Into<Value>) {
         let place = self.place(arg).expect("a number of the call");
         self.values[place] = number.into();
-    }
-
-    /// What the second implementation seals under a start with the buffers of a seal call, however
-    /// short its output is; zeros where another ground refuses it.
-    pub fn parcel(&self, start: Start) -> Vec<u8> {
-        let [mode, rounds] = [Arg::Mode, Arg::Rounds].map(|arg| self.number(arg));
-        let mut parcel = vec![0; self[Arg::Message].len() + TAG_LEN];
-        let inputs = [Arg::Key, Arg::Nonce, Arg::Header, Arg::Message].map(|arg| &*self[arg]);
-        seal_under(start, mode, rounds, inputs, &mut parcel).ok();
-        parcel
-    }
-}
-
-/// A call of which no ground of refusal holds but its parcel's start, and what comes of it.
-pub struct Good {
-    pub call: Call,
-    pub answer: u64,
-    /// What the output then begins with.
-    pub written: Vec<u8>,
-}
-
-impl Good {
-    fn new(call: Call, number: u32, written: &[u8]) -> Self {
-        let (answer, written) = match number {
-            0 => (written.len() as u64, written.to_vec()),
-            _ => (refusal(number, 0), Vec::new()),
-        };
-        Self {
-            call,
-            answer,
-            written,
-        }
-    }
-
-    /// It is not refused with 9.
-    pub fn opens(&self) -> bool {
-        self.answer != refusal(9, 0)
     }
 }
 

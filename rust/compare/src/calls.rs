@@ -2,7 +2,7 @@
 
 use crate::call::{pattern, Call, Value};
 use crate::conversion;
-use crate::entry::Arg::{self, *};
+use crate::entry::Arg::*;
 use crate::entry::Entry;
 use crate::library::{function, Slots};
 use crate::runs;
@@ -197,24 +197,29 @@ fn take_by_reference(a: &mut Slots) -> Result<usize, Refusal> {
 
 /// A walk, with an output that is just enough.
 pub fn walk(start: &[u8], steps: &[u8]) -> Call {
-    Call::new(
-        &WALK,
-        [start.into(), steps.into(), pattern(BLOCK_LEN).into()],
-    )
+    let walk = Call::new(&WALK, |arg| match arg {
+        Block => start.into(),
+        Steps => steps.into(),
+        _ => Value::NONE,
+    });
+    walk.fitted()
 }
 
 /// A jump, with an output that is just enough.
 pub fn jump(start: &[u8], [alpha, beta, gamma]: [i32; 3]) -> Call {
-    let counts = [alpha.into(), beta.into(), gamma.into()];
-    Call::new(
-        &JUMP,
-        [&[start.into()], &counts[..], &[pattern(BLOCK_LEN).into()]].concat(),
-    )
+    let jump = Call::new(&JUMP, |arg| match arg {
+        Block => start.into(),
+        Alpha => alpha.into(),
+        Beta => beta.into(),
+        Gamma => gamma.into(),
+        _ => Value::NONE,
+    });
+    jump.fitted()
 }
 
 /// A call of the store, on a sale or not.
 pub fn on_store(entry: &'static Entry, key: &[u8], store: &[u8], sold: &Sold) -> Call {
-    let value = |&arg: &Arg| match arg {
+    Call::new(entry, |arg| match arg {
         Key => key.into(),
         Store => store.into(),
         Machine => sold.machine.into(),
@@ -226,8 +231,7 @@ pub fn on_store(entry: &'static Entry, key: &[u8], store: &[u8], sold: &Sold) ->
         Clock => sold.clock[..].into(),
         Total => pattern(8).into(),
         _ => panic!("{arg:?} is no argument of a store"),
-    };
-    Call::new(entry, entry.args.iter().map(value).collect::<Vec<Value>>())
+    })
 }
 
 /// A call of the store on the sale with these numbers, if on one.

@@ -118,8 +118,8 @@ impl Case {
     /// Makes the call and holds it against the answer line: the number and the value, and then what
     /// the call writes.
     pub fn replay(&self, library: Library, answer: &str) -> Result<(), String> {
-        let values: Vec<Value> = self.fields.iter().map(Field::value).collect();
-        let mut lent = pages::lent(&Call::new(self.entry, values), self.edge);
+        let (entry, values) = (self.entry, self.fields.iter().map(Field::value).collect());
+        let mut lent = pages::lent(&Call { entry, values }, self.edge);
         let got = lent.call(library, self.null);
         let now = lent.now();
         let mut texts = answer.split(' ');
@@ -129,8 +129,8 @@ impl Case {
         if (n, v) != (m, w) {
             differences.push(format!("wanted {n} {v}, got {m} {w}"));
         }
-        for (arg, field) in self.entry.args.iter().zip(&self.fields) {
-            if self.entry.writes.contains(arg) {
+        for (arg, field) in entry.args.iter().zip(&self.fields) {
+            if entry.writes.contains(arg) {
                 differences.extend(field.differs(next(&mut texts)?, &now[*arg])?);
             }
         }

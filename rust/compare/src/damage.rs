@@ -1,8 +1,9 @@
 //! Parcels damaged in every way, and parcels under other settings.
 
-use crate::call::{Call, Good};
+use crate::call::Call;
 use crate::calls::{self, OPEN, OPEN_OLD, SEAL};
 use crate::entry::Arg::{Header, Key, Message, Mode, Nonce, Output, Parcel, Rounds, Words};
+use crate::good::Good;
 use crate::library::{refusal, Library};
 use crate::prng::Prng;
 use crate::report::{Check, Tally};

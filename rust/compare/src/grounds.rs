@@ -1,39 +1,40 @@
 //! Every set of grounds that can hold at once: the first in the order of the checks wins.
 
 use crate::call::Call;
-use crate::calls::{jump, on_store, walk, CANCEL, FORMAT, READ, TAKE, TOTAL};
+use crate::calls::{self, jump, on_store, walk, CANCEL, FORMAT, READ, TAKE, TOTAL};
 use crate::entry::Arg::{self, *};
 use crate::entry::Kind;
 use crate::library::{refusal, Library};
+use crate::met::Met;
 use crate::prng::Prng;
 use crate::report::{Check, Tally};
 use crate::stores::sound::{random_sale, KIND_AT};
 use reference::store::{BODY_AT, CELL_LEN, SALE};
-use reference::{settings, MRO, OPP, ROUNDS};
+use reference::{settings, MRO, OPP, ROUNDS, TAG_LEN};
 
-/// A change to a good call that gives a ground, or says that it can't.
-type Spoil = fn(&mut Prng, &mut Call) -> bool;
+/// A change of an argument that gives a ground, or says that it can't.
+type Spoil = fn(&mut Prng, &mut Call, Arg) -> bool;
 
 /// Every ground: the refusal's number, the argument that it lies in, and the change. That of 17 is a
-/// parcel's start, which [`Call::good_calls`] gives it.
+/// parcel's start, which the good calls have.
 const GROUNDS: [(u32, Arg, Spoil); 22] = [
-    (1, Mode, |prng, call| refused_number(prng, call, Mode)),
-    (2, Rounds, |prng, call| refused_number(prng, call, Rounds)),
-    (3, Key, |prng, call| other_length(prng, call, Key)),
-    (4, Nonce, |prng, call| other_length(prng, call, Nonce)),
-    (5, Header, |prng, call| too_long(prng, call, Header)),
-    (8, Parcel, |prng, call| too_short(prng, call, Parcel)),
-    (6, Message, |prng, call| too_long(prng, call, Message)),
-    (6, Parcel, |prng, call| too_long(prng, call, Parcel)),
-    (7, Output, |_, call| call.lend(Output, -1)),
-    (7, Words, |_, call| call.lend(Words, -8)),
+    (1, Mode, refused_number),
+    (2, Rounds, refused_number),
+    (3, Key, other_length),
+    (4, Nonce, other_length),
+    (5, Header, too_long),
+    (8, Parcel, too_short),
+    (6, Message, too_long),
+    (6, Parcel, too_long),
+    (7, Output, |_, call, output| call.lend(output, -1)),
+    (7, Words, |_, call, words| call.lend(words, -8)),
     (9, Parcel, bad_tag),
-    (10, Block, |prng, call| other_length(prng, call, Block)),
-    (13, Steps, |prng, call| too_long(prng, call, Steps)),
+    (10, Block, other_length),
+    (13, Steps, too_long),
     (12, Steps, bad_step),
-    (11, Alpha, |prng, call| refused_number(prng, call, Alpha)),
-    (11, Beta, |prng, call| refused_number(prng, call, Beta)),
-    (11, Gamma, |prng, call| refused_number(prng, call, Gamma)),
+    (11, Alpha, refused_number),
+    (11, Beta, refused_number),
+    (11, Gamma, refused_number),
     (14, Store, bad_length),
     (14, Store, bad_kind),
     (16, Machine, bad_numbers),
@@ -41,76 +42,89 @@ const GROUNDS: [(u32, Arg, Spoil); 22] = [
     (9, Store, bad_sale),
 ];
 
-/// All sets of grounds of all calls, and all round counts.
+/// All sets of grounds of all calls, and all round counts. Every refusal of every call has to be met.
 pub fn run(library: Library, seed: u64) -> Tally {
-    let mut prng = Prng::new(seed);
-    let mut check = Check::new(library);
+    let mut run = Run {
+        prng: Prng::new(seed),
+        check: Check::new(library),
+        met: Met::new(calls::ALL.into_iter()),
+    };
     for (mode, rounds) in settings() {
         // The header has more whole blocks than the message.
-        let seal = Call::seal(&mut prng, mode, rounds, 300, 70);
+        let seal = Call::seal(&mut run.prng, mode, rounds, 300, 70);
         for good in seal.good_calls() {
-            all_sets(&mut prng, &mut check, &good.call, good.answer);
+            run.all_sets(&good.call, good.answer);
         }
     }
-    round_counts(&mut prng, &mut check);
-    let walk = walk(&prng.bytes(128), &[1, 5, 6]);
-    all_sets(&mut prng, &mut check, &walk, 128);
-    let jump = jump(&prng.bytes(128), [1, -2, 3]);
-    all_sets(&mut prng, &mut check, &jump, 128);
-    stores(&mut prng, &mut check);
-    check.tally
+    run.round_counts();
+    let start = run.prng.bytes(128);
+    run.all_sets(&walk(&start, &[1, 5, 6]), 128);
+    run.all_sets(&jump(&start, [1, -2, 3]), 128);
+    run.stores();
+    run.met.all(&mut run.check.tally);
+    run.check.tally
 }
 
-/// A store with sales in cells 2 and 1, in this order, and with cell 3 free.
-fn stores(prng: &mut Prng, check: &mut Check) {
-    let key = prng.bytes(32);
-    let [first, second, third] = [5, 6, 7].map(|sale| random_sale(prng, 1, sale));
-    let empty = on_store(&FORMAT, &[], &prng.bytes(4 * CELL_LEN), &first);
-    let mut store = check.answers(&empty, 0);
-    for (cell, sold) in [(1, &first), (2, &second)] {
-        store = check.answers(&on_store(&TAKE, &key, &store[Store], sold), cell);
-    }
-    for (entry, sold, answer) in [
-        (&FORMAT, &first, 0),
-        (&TAKE, &third, 3),
-        (&CANCEL, &first, first.amount.into()),
-        (&TOTAL, &first, 0),
-        (&READ, &first, (CELL_LEN + BODY_AT) as u64),
-    ] {
-        let call = on_store(entry, &key, &store[Store], sold);
-        all_sets(prng, check, &call, answer);
-    }
+struct Run {
+    prng: Prng,
+    check: Check,
+    met: Met,
 }
 
-/// The library allows the counts that the second implementation does and no other, nor one that
-/// is cut to an allowed one.
-fn round_counts(prng: &mut Prng, check: &mut Check) {
-    let cut = |&rounds: &u32| [8, 16].map(|bits| rounds | 1 << bits);
-    let counts = (0..256).chain(ROUNDS.iter().flat_map(cut));
-    for rounds in counts.chain([u32::MAX]) {
-        for mode in [OPP, MRO] {
-            for good in Call::seal(prng, mode, rounds, 3, 5).good_calls() {
-                check.compare(&good.call);
+impl Run {
+    /// A store with sales in cells 2 and 1, in this order, and with cell 3 free.
+    fn stores(&mut self) {
+        let key = self.prng.bytes(32);
+        let [first, second, third] = [5, 6, 7].map(|sale| random_sale(&mut self.prng, 1, sale));
+        let empty = on_store(&FORMAT, &[], &self.prng.bytes(4 * CELL_LEN), &first);
+        let mut store = self.check.answers(&empty, 0);
+        for (cell, sold) in [(1, &first), (2, &second)] {
+            let take = on_store(&TAKE, &key, &store[Store], sold);
+            store = self.check.answers(&take, cell);
+        }
+        for (entry, sold, answer) in [
+            (&FORMAT, &first, 0),
+            (&TAKE, &third, 3),
+            (&CANCEL, &first, first.amount.into()),
+            (&TOTAL, &first, 0),
+            (&READ, &first, (CELL_LEN + BODY_AT) as u64),
+        ] {
+            self.all_sets(&on_store(entry, &key, &store[Store], sold), answer);
+        }
+    }
+
+    /// The library allows the counts that the second implementation does and no other, nor one that
+    /// is cut to an allowed one.
+    fn round_counts(&mut self) {
+        let cut = |&rounds: &u32| [8, 16].map(|bits| rounds | 1 << bits);
+        let counts = (0..256).chain(ROUNDS.iter().flat_map(cut));
+        for rounds in counts.chain([u32::MAX]) {
+            for mode in [OPP, MRO] {
+                let seal = Call::seal(&mut self.prng, mode, rounds, 3, 5);
+                for good in seal.good_calls() {
+                    self.check.compare(&good.call);
+                }
             }
         }
     }
-}
 
-/// Each set of grounds on the call `good`, which answers `done` where none is set.
-fn all_sets(prng: &mut Prng, check: &mut Check, good: &Call, done: u64) {
-    let entry = good.entry;
-    let of = |&number: &u32| GROUNDS.into_iter().filter(move |ground| ground.0 == number);
-    let grounds = entry.refused.iter().flat_map(of);
-    let grounds: Vec<_> = grounds.filter(|&(_, arg, _)| entry.takes(arg)).collect();
-    for set in 0..1u32 << grounds.len() {
-        let mut call = good.clone();
-        let mut chosen = (0..grounds.len()).filter(|i| set >> i & 1 == 1);
-        let first = chosen.clone().next().map(|i| grounds[i]);
-        if chosen.all(|i| grounds[i].2(prng, &mut call)) {
-            check.answers(
-                &call,
-                first.map_or(done, |(number, arg, _)| answer(number, arg)),
-            );
+    /// Each set of grounds on the call `good`, which answers `done` where none is set.
+    fn all_sets(&mut self, good: &Call, done: u64) {
+        let entry = good.entry;
+        let of = |&number: &u32| GROUNDS.into_iter().filter(move |ground| ground.0 == number);
+        let grounds = entry.refused.iter().flat_map(of);
+        let grounds: Vec<_> = grounds.filter(|ground| entry.takes(ground.1)).collect();
+        for set in 0..1u32 << grounds.len() {
+            let chosen = (0..grounds.len()).filter(|i| set >> i & 1 == 1);
+            let mut chosen = chosen.map(|i| grounds[i]).peekable();
+            let wanted = chosen
+                .peek()
+                .map_or(done, |&(number, arg, _)| answer(number, arg));
+            let mut call = good.clone();
+            if chosen.all(|(_, arg, spoil)| spoil(&mut self.prng, &mut call, arg)) {
+                self.check.answers(&call, wanted);
+                self.met.add(&call, wanted);
+            }
         }
     }
 }
@@ -171,47 +185,47 @@ fn too_short(prng: &mut Prng, call: &mut Call, arg: Arg) -> bool {
     true
 }
 
-fn bad_tag(prng: &mut Prng, call: &mut Call) -> bool {
-    let tag = call[Parcel].last_chunk_mut::<32>();
-    tag.map(|tag| tag[prng.below(32)] ^= 0x80).is_some()
+fn bad_tag(prng: &mut Prng, call: &mut Call, parcel: Arg) -> bool {
+    let tag = call[parcel].last_chunk_mut::<TAG_LEN>();
+    tag.map(|tag| tag[prng.below(TAG_LEN)] ^= 0x80).is_some()
 }
 
-fn bad_step(prng: &mut Prng, call: &mut Call) -> bool {
-    call[Steps][2] = prng.pick(&[0, 7, 8, 255]);
+fn bad_step(prng: &mut Prng, call: &mut Call, steps: Arg) -> bool {
+    call[steps][2] = prng.pick(&[0, 7, 8, 255]);
     true
 }
 
-fn bad_length(_: &mut Prng, call: &mut Call) -> bool {
-    call[Store].push(0);
+fn bad_length(_: &mut Prng, call: &mut Call, store: Arg) -> bool {
+    call[store].push(0);
     true
 }
 
 /// Format looks at no kind.
-fn bad_kind(_: &mut Prng, call: &mut Call) -> bool {
-    call[Store][CELL_LEN + KIND_AT] = 3;
+fn bad_kind(_: &mut Prng, call: &mut Call, store: Arg) -> bool {
+    call[store][CELL_LEN + KIND_AT] = 3;
     call.entry.name != FORMAT.name
 }
 
 /// To take, those of cell 1; else those of no cell.
-fn bad_numbers(_: &mut Prng, call: &mut Call) -> bool {
+fn bad_numbers(_: &mut Prng, call: &mut Call, machine: Arg) -> bool {
     if call.entry.takes(Tail) {
         call.set(Sale, 5u32);
     } else {
-        call.set(Machine, 2u32);
+        call.set(machine, 2u32);
     }
     true
 }
 
 /// Cell 3 becomes the first sale.
-fn full(_: &mut Prng, call: &mut Call) -> bool {
-    let store = &mut call[Store];
+fn full(_: &mut Prng, call: &mut Call, store: Arg) -> bool {
+    let store = &mut call[store];
     store[..4].copy_from_slice(&[3, 0, 0, 0]);
     store[3 * CELL_LEN..][..3].copy_from_slice(&[2, 0, SALE]);
     true
 }
 
 /// A bit of the tag in cell 1.
-fn bad_sale(_: &mut Prng, call: &mut Call) -> bool {
-    call[Store][2 * CELL_LEN - 1] ^= 0x80;
+fn bad_sale(_: &mut Prng, call: &mut Call, store: Arg) -> bool {
+    call[store][2 * CELL_LEN - 1] ^= 0x80;
     true
 }

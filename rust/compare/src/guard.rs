@@ -1,9 +1,10 @@
 //! Every lent buffer at the edge of a page that can't be touched.
 
-use crate::call::{Call, Good};
+use crate::call::Call;
 use crate::calls::{self, jump, walk};
 use crate::child;
 use crate::entry::Arg::{Output, Store, Words};
+use crate::good::Good;
 use crate::library::Library;
 use crate::pages::{self, Edge};
 use crate::prng::Prng;

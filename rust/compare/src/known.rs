@@ -2,7 +2,7 @@
 
 use crate::call::{pattern, Call, Value};
 use crate::calls::{jump, walk, CONVERT, OPEN, OPEN_OLD, OPEN_RUN, SEAL, SEAL_RUN};
-use crate::entry::Arg::{Output, Words};
+use crate::entry::Arg::{Header, Key, Message, Mode, Nonce, Output, Parcel, Rounds, Words};
 use crate::entry::Entry;
 use crate::library::{refusal, Library};
 use crate::report::{Check, Tally};
@@ -65,12 +65,8 @@ fn zeros(check: &mut Check) {
     for (name, mode, len) in ZEROS {
         for &rounds in ROUNDS {
             for (open, wanted) in [(&OPEN_OLD, len as u64), (&OPEN, refusal(9, 0))] {
-                let call = sealing(
-                    open,
-                    [mode, rounds],
-                    [&[0; 32], &[], &vec![0; len + 32]],
-                    len,
-                );
+                let inputs = [&[0; 32][..], &[], &vec![0; len + 32]];
+                let call = sealing(open, [mode, rounds], inputs, len);
                 let (answer, after) = check.library.call(&call);
                 let passed = answer == wanted && after[Output] == vec![0; len];
                 check.record(passed, || format!("{name}: {answer:#x}"));
@@ -130,12 +126,8 @@ fn sealing_limits(check: &mut Check) {
         for (name, rounds, key, header, message, output, wanted) in lines {
             let [key, header, message] = [key, header, message].map(|len| vec![7; len]);
             let inputs = [&key[..], &header, &message];
-            answers(
-                check,
-                name,
-                &sealing(&SEAL, [mode, rounds], inputs, output),
-                wanted,
-            );
+            let call = sealing(&SEAL, [mode, rounds], inputs, output);
+            answers(check, name, &call, wanted);
         }
         // Zero key and nonce, so under the old start a tag of zeros opens as the empty message.
         for (name, open, parcel, wanted) in [
@@ -168,12 +160,8 @@ fn parcel_limits(check: &mut Check) {
         ("a parcel of 65,569", 0, 65_569, 65_569, refusal(6, 0)),
     ] {
         let inputs = [&[0; 32][..], &vec![0; header], &vec![0; parcel]];
-        answers(
-            check,
-            name,
-            &sealing(&CONVERT, [OPP, ROUNDS[0]], inputs, output),
-            wanted,
-        );
+        let call = sealing(&CONVERT, [OPP, ROUNDS[0]], inputs, output);
+        answers(check, name, &call, wanted);
     }
 }
 
@@ -192,12 +180,8 @@ fn run_limits(check: &mut Check) {
         for mode in [OPP, MRO] {
             let settings = [mode, ROUNDS[0]];
             let (header, sealed) = (vec![7; header], vec![7; message]);
-            let seal = sealing(
-                &SEAL_RUN,
-                settings,
-                [&[7; 32], &header, &sealed],
-                message + 32,
-            );
+            let inputs = [&[7; 32][..], &header, &sealed];
+            let seal = sealing(&SEAL_RUN, settings, inputs, message + 32);
             let parcel = run_lengths(check, &seal, needed);
             let open = sealing(&OPEN_RUN, settings, [&[7; 32], &header, &parcel], message);
             let opened = run_lengths(check, &open, needed);
@@ -253,19 +237,16 @@ fn sealing(
     [key, header, input]: [&[u8]; 3],
     output_len: usize,
 ) -> Call {
-    let output = pattern(output_len);
-    let [nonce, output] = [&key[..16], &output];
-    let buffers = [key, nonce, header, input, output].map(Value::from);
-    let words = entry.takes(Words).then(|| Value::Bytes(Vec::new()));
-    let settings = [mode, rounds].map(Value::from);
-    Call::new(
-        entry,
-        settings
-            .into_iter()
-            .chain(buffers)
-            .chain(words)
-            .collect::<Vec<_>>(),
-    )
+    Call::new(entry, |arg| match arg {
+        Mode => mode.into(),
+        Rounds => rounds.into(),
+        Key => key.into(),
+        Nonce => key[..16].into(),
+        Header => header.into(),
+        Message | Parcel => input.into(),
+        Output => pattern(output_len).into(),
+        _ => Value::NONE,
+    })
 }
 
 /// Counts whether a call answers `wanted`.

@@ -148,8 +148,8 @@ impl<R: Deref<Target = [u8]>, W: DerefMut<Target = [u8]>> Lent<R, W> {
             Held::Read(bytes) => bytes.into(),
             Held::Written(bytes) => bytes[..].into(),
         };
-        let values = self.held.into_iter().map(value);
-        Call::new(self.entry, values.collect::<Vec<Value>>())
+        let (entry, values) = (self.entry, self.held.into_iter().map(value).collect());
+        Call { entry, values }
     }
 }
 

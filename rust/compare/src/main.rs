@@ -11,6 +11,7 @@ mod conversion;
 mod damage;
 mod edges;
 mod entry;
+mod good;
 mod grounds;
 mod guard;
 mod known;

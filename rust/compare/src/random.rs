@@ -46,8 +46,7 @@ pub fn run(library: Library, seed: u64, calls: u64) -> Tally {
 /// A call of random arguments. Its parcel was sealed, but half of the time it is damaged or under other
 /// settings, and now and then cut to a tag or less.
 fn random_call(prng: &mut Prng, entry: &'static Entry) -> Call {
-    let values = entry.args.iter().map(|&arg| value(prng, arg));
-    let mut call = Call::new(entry, values.collect::<Vec<Value>>());
+    let mut call = Call::new(entry, |arg| value(prng, arg));
     if entry.takes(Parcel) {
         seal_parcel(prng, &mut call);
     }
@@ -101,7 +100,7 @@ fn value(prng: &mut Prng, arg: Arg) -> Value {
         },
         Kind::Fixed(len) => prng.bytes(len).into(),
         Kind::Variable => prng.bytes(8).into(),
-        Kind::Room | Kind::Run => Vec::new().into(),
+        Kind::Room | Kind::Run => Value::NONE,
     }
 }
 

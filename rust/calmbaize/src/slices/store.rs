@@ -22,9 +22,7 @@ use crate::{ffi, Refusal, Sale, NONCE_TAIL_LEN};
 /// assert_eq!(store::format(&mut [0xaa; 255]), Err(Ground::StoreForm.into()));
 /// ```
 pub fn format(store: &mut [u8]) -> Result<(), Refusal> {
-    // SAFETY: the pointer is valid for its length.
-    let answer = unsafe { ffi::calmbaize_store_format(store.as_mut_ptr(), store.len()) };
-    ffi::decode(answer).map(|_| ())
+    ffi::decode(call!(calmbaize_store_format(&mut store))).map(|_| ())
 }
 
 /// Seals `sale` into the first free cell of `store` and puts it at the front of the sales.
@@ -56,22 +54,18 @@ pub fn take(
     nonce_tail: &[u8; NONCE_TAIL_LEN],
     sale: &Sale,
 ) -> Result<u32, Refusal> {
-    // SAFETY: each pointer is valid for its length, and a mutable borrow overlaps no other.
-    ffi::decode(unsafe {
-        ffi::calmbaize_store_take(
-            key.as_ptr(),
-            key.len(),
-            store.as_mut_ptr(),
-            store.len(),
-            sale.machine,
-            sale.sale,
-            nonce_tail.as_ptr(),
-            sale.amount,
-            sale.column,
-            sale.means,
-            sale.clock.as_ptr(),
-        )
-    })
+    let (nonce_tail, clock) = (nonce_tail.as_ptr(), sale.clock.as_ptr());
+    ffi::decode(call!(calmbaize_store_take(
+        &key,
+        &mut store,
+        sale.machine,
+        sale.sale,
+        nonce_tail,
+        sale.amount,
+        sale.column,
+        sale.means,
+        clock
+    )))
 }
 
 /// Takes a sale out of `store`, of two alike the first in the chain, and puts its cell, zeroed, at
@@ -100,17 +94,9 @@ pub fn take(
 /// # Ok::<(), Refusal>(())
 /// ```
 pub fn cancel(key: &[u8], store: &mut [u8], machine: u32, sale: u32) -> Result<u32, Refusal> {
-    // SAFETY: each pointer is valid for its length, and a mutable borrow overlaps no other.
-    ffi::decode(unsafe {
-        ffi::calmbaize_store_cancel(
-            key.as_ptr(),
-            key.len(),
-            store.as_mut_ptr(),
-            store.len(),
-            machine,
-            sale,
-        )
-    })
+    ffi::decode(call!(calmbaize_store_cancel(
+        &key, &mut store, machine, sale
+    )))
 }
 
 /// The cash total of `store`: the sum of the amounts whose means is
@@ -138,16 +124,7 @@ pub fn cancel(key: &[u8], store: &mut [u8], machine: u32, sale: u32) -> Result<u
 /// ```
 pub fn total(key: &[u8], store: &[u8]) -> Result<u64, Refusal> {
     let mut total = 0;
-    // SAFETY: each pointer is valid for its length, and the total overlaps no slice.
-    let answer = unsafe {
-        ffi::calmbaize_store_total(
-            key.as_ptr(),
-            key.len(),
-            store.as_ptr(),
-            store.len(),
-            &mut total,
-        )
-    };
+    let answer = call!(calmbaize_store_total(&key, &store, &raw mut total));
     ffi::decode(answer).map(|_| total)
 }
 
@@ -173,6 +150,5 @@ pub fn total(key: &[u8], store: &[u8]) -> Result<u64, Refusal> {
 /// # Ok::<(), Refusal>(())
 /// ```
 pub fn read(store: &[u8], machine: u32, sale: u32) -> Result<usize, Refusal> {
-    // SAFETY: the pointer is valid for its length.
-    value(unsafe { ffi::calmbaize_store_read(store.as_ptr(), store.len(), machine, sale) })
+    value(call!(calmbaize_store_read(&store, machine, sale)))
 }
