@@ -10,7 +10,7 @@ use reference::store::{self, Sale as Sold};
 use reference::{open_under, seal_under, Refusal, Start, BLOCK_LEN, TAG_LEN};
 
 /// All calls. Another one is another line here.
-pub const ALL: [&Entry; 13] = [
+pub static ALL: [&Entry; 13] = [
     &SEAL, &OPEN, &OPEN_OLD, &CONVERT, &SEAL_RUN, &OPEN_RUN, &WALK, &JUMP, &FORMAT, &TAKE, &CANCEL,
     &TOTAL, &READ,
 ];
@@ -36,7 +36,7 @@ pub fn but_store() -> impl Iterator<Item = &'static Entry> {
     ALL.into_iter().filter(|entry| !entry.takes(Store))
 }
 
-pub const SEAL: Entry = Entry {
+pub static SEAL: Entry = Entry {
     name: "seal",
     args: &[Mode, Rounds, Key, Nonce, Header, Message, Output],
     writes: &[Output],
@@ -50,7 +50,7 @@ pub const SEAL: Entry = Entry {
     reference: |a| seal_under(Start::New, a.next(), a.next(), a.next(), a.next()),
 };
 
-pub const OPEN: Entry = Entry {
+pub static OPEN: Entry = Entry {
     name: "open",
     args: &[Mode, Rounds, Key, Nonce, Header, Parcel, Output],
     refused: &[1, 2, 3, 4, 5, 8, 6, 7, 9],
@@ -62,7 +62,7 @@ pub const OPEN: Entry = Entry {
     ..SEAL
 };
 
-pub const OPEN_OLD: Entry = Entry {
+pub static OPEN_OLD: Entry = Entry {
     name: "open_old",
     parcels: &[(Start::Old, 0), (Start::New, 9)],
     function: function!(c12, calmbaize_open_old, baseline_open_old),
@@ -70,7 +70,7 @@ pub const OPEN_OLD: Entry = Entry {
     ..OPEN
 };
 
-pub const CONVERT: Entry = Entry {
+pub static CONVERT: Entry = Entry {
     name: "convert",
     refused: &[1, 2, 3, 4, 5, 8, 6, 7, 17, 9],
     written: |parcel| parcel,
@@ -82,7 +82,7 @@ pub const CONVERT: Entry = Entry {
     ..OPEN
 };
 
-pub const SEAL_RUN: Entry = Entry {
+pub static SEAL_RUN: Entry = Entry {
     name: "seal_run",
     args: &[Mode, Rounds, Key, Nonce, Header, Message, Output, Words],
     writes: &[Output, Words],
@@ -93,7 +93,7 @@ pub const SEAL_RUN: Entry = Entry {
     ..SEAL
 };
 
-pub const OPEN_RUN: Entry = Entry {
+pub static OPEN_RUN: Entry = Entry {
     name: "open_run",
     args: &[Mode, Rounds, Key, Nonce, Header, Parcel, Output, Words],
     writes: &[Output, Words],
@@ -104,7 +104,7 @@ pub const OPEN_RUN: Entry = Entry {
     ..OPEN
 };
 
-pub const WALK: Entry = Entry {
+pub static WALK: Entry = Entry {
     name: "walk",
     args: &[Block, Steps, Output],
     refused: &[10, 13, 12, 7],
@@ -114,7 +114,7 @@ pub const WALK: Entry = Entry {
     ..SEAL
 };
 
-pub const JUMP: Entry = Entry {
+pub static JUMP: Entry = Entry {
     name: "jump",
     args: &[Block, Alpha, Beta, Gamma, Output],
     refused: &[10, 11, 7],
@@ -123,7 +123,7 @@ pub const JUMP: Entry = Entry {
     ..WALK
 };
 
-pub const FORMAT: Entry = Entry {
+pub static FORMAT: Entry = Entry {
     name: "format",
     args: &[Store],
     writes: &[Store],
@@ -134,7 +134,7 @@ pub const FORMAT: Entry = Entry {
     ..SEAL
 };
 
-pub const TAKE: Entry = Entry {
+pub static TAKE: Entry = Entry {
     name: "take",
     args: &[
         Key, Store, Machine, Sale, Tail, Amount, Column, Means, Clock,
@@ -145,7 +145,7 @@ pub const TAKE: Entry = Entry {
     ..FORMAT
 };
 
-pub const CANCEL: Entry = Entry {
+pub static CANCEL: Entry = Entry {
     name: "cancel",
     args: &[Key, Store, Machine, Sale],
     refused: &[3, 14, 16, 9],
@@ -157,7 +157,7 @@ pub const CANCEL: Entry = Entry {
     ..FORMAT
 };
 
-pub const TOTAL: Entry = Entry {
+pub static TOTAL: Entry = Entry {
     name: "total",
     args: &[Key, Store, Total],
     writes: &[Total],
@@ -171,7 +171,7 @@ pub const TOTAL: Entry = Entry {
     ..FORMAT
 };
 
-pub const READ: Entry = Entry {
+pub static READ: Entry = Entry {
     name: "read",
     args: &[Store, Machine, Sale],
     writes: &[],

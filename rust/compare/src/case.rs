@@ -172,7 +172,7 @@ mod tests {
     }
 
     /// `number input lent`, a call that writes the number to all of the lent bytes.
-    const FILL: Entry = Entry {
+    static FILL: Entry = Entry {
         args: &[Arg::Means, Arg::Header, Arg::Output],
         writes: &[Arg::Output],
         reference: |a| {
@@ -209,7 +209,7 @@ mod tests {
     }
 
     /// `words`, a call that adds one to each word.
-    const ADD: Entry = Entry {
+    static ADD: Entry = Entry {
         args: &[Arg::Words],
         writes: &[Arg::Words],
         reference: |a| {
@@ -237,7 +237,7 @@ mod tests {
     }
 
     /// `variable count tail`, a call that adds the count.
-    const COUNT: Entry = Entry {
+    static COUNT: Entry = Entry {
         args: &[Arg::Total, Arg::Alpha, Arg::Tail],
         writes: &[Arg::Total],
         reference: |a| {

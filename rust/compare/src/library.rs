@@ -24,6 +24,7 @@ pub const ARCHIVE: Option<Library> = Some(Library::Archive);
 pub const ARCHIVE: Option<Library> = None;
 
 /// A call of the C interface in both libraries that have it.
+#[derive(Clone, Copy)]
 pub struct Function {
     #[cfg(feature = "archive")]
     pub archive: fn(&mut Slots) -> u64,
