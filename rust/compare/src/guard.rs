@@ -45,10 +45,8 @@ pub fn child(library: Library) {
         }
     }
     for entry in calls::ALL {
-        for number in [0, 9, 17]
-            .into_iter()
-            .filter(|&n| n == 0 || entry.refuses(n))
-        {
+        let numbers = [0, 9, 17].into_iter();
+        for number in numbers.filter(|&number| number == 0 || entry.refuses(number)) {
             child::call(entry.name);
             let none = || format!("no call met refusal {number}, 0 for none");
             child::outcome(met.get(&(entry.name, number)).map(drop).ok_or_else(none));

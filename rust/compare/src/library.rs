@@ -93,25 +93,19 @@ impl<R: Deref<Target = [u8]>, W: DerefMut<Target = [u8]>> Lent<R, W> {
         written: impl Fn(&'a [u8]) -> W,
     ) -> Self {
         let entry = call.entry;
-        let held = entry
-            .args
-            .iter()
-            .zip(&call.values)
-            .map(|(arg, value)| match value {
-                Value::Number(number) => Held::Number(*number),
-                Value::Bytes(bytes) => {
-                    assert!(arg.can_be(bytes.len()), "{call}: {arg:?}");
-                    if entry.writes.contains(arg) {
-                        Held::Written(written(bytes))
-                    } else {
-                        Held::Read(read(bytes))
-                    }
+        let pairs = entry.args.iter().zip(&call.values);
+        let held = pairs.map(|(arg, value)| match value {
+            Value::Number(number) => Held::Number(*number),
+            Value::Bytes(bytes) => {
+                assert!(arg.can_be(bytes.len()), "{call}: {arg:?}");
+                match entry.writes.contains(arg) {
+                    true => Held::Written(written(bytes)),
+                    false => Held::Read(read(bytes)),
                 }
-            });
-        Self {
-            entry,
-            held: held.collect(),
-        }
+            }
+        });
+        let held = held.collect();
+        Self { entry, held }
     }
 
     /// Makes the call. Where `null` is set, the C interface gets empty buffers as null pointers.

@@ -1,6 +1,6 @@
 //! Random calls of all entry points but the store's: long and short, valid, refused and damaged.
 
-use crate::call::{pattern, Call, Value};
+use crate::call::{Call, Value};
 use crate::calls::{self, SEAL};
 use crate::damage;
 use crate::entry::Arg::{self, Message, Output, Parcel, Steps, Words};
@@ -53,11 +53,7 @@ fn random_call(prng: &mut Prng, entry: &'static Entry) -> Call {
     for (arg, unit) in [(Output, 1), (Words, 8)] {
         if entry.takes(arg) {
             let len = unit * lent_length(prng, call.needed(arg) / unit);
-            call[arg] = if arg == Words {
-                prng.bytes(len)
-            } else {
-                pattern(len)
-            };
+            call[arg] = prng.bytes(len);
         }
     }
     if entry.takes(Parcel) && prng.once_in(2) {
@@ -73,12 +69,9 @@ fn random_call(prng: &mut Prng, entry: &'static Entry) -> Call {
 /// refused with 9.
 fn seal_parcel(prng: &mut Prng, call: &mut Call) {
     let any = prng.once_in(16);
-    let starts = call
-        .entry
-        .parcels
-        .iter()
-        .filter(|(_, number)| any || *number != 9);
-    let (start, _) = prng.pick(&starts.collect::<Vec<_>>());
+    let parcels = call.entry.parcels.iter();
+    let parcels = parcels.filter(|(_, number)| any || *number != 9);
+    let (start, _) = prng.pick(&parcels.collect::<Vec<_>>());
     let message = std::mem::take(&mut call[Parcel]);
     call[Parcel] = call.turned(&SEAL).with(Message, message).parcel(*start);
 }
@@ -91,7 +84,7 @@ fn value(prng: &mut Prng, arg: Arg) -> Value {
             prng.pick(numbers).into()
         }
         Kind::Count(max) => count(prng, max).into(),
-        Kind::Number(max) => (prng.next() as u32 % max).into(),
+        Kind::Number(max) => (prng.below(max as usize + 1) as u32).into(),
         Kind::Bytes(lengths) => match (arg, lengths.into_inner()) {
             (Steps, (_, max)) => steps(prng, max).into(),
             (Parcel, _) => message(prng, MAX_MESSAGE_LEN).into(),

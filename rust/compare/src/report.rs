@@ -80,13 +80,9 @@ impl Check {
         let wanted_answer = wanted.call(Library::Reference, false);
         let answer = lent.call(self.library, true);
         let pairs = lent.held.iter().zip(&wanted.held);
-        let mut differing = call
-            .entry
-            .args
-            .iter()
-            .zip(pairs)
-            .filter_map(|(arg, (held, wanted))| Some((arg, differs(held, wanted)?)));
-        let difference = differing.next();
+        let mut pairs = call.entry.args.iter().zip(pairs);
+        let difference =
+            pairs.find_map(|(arg, (held, wanted))| Some((arg, differs(held, wanted)?)));
         self.record(answer == wanted_answer && difference.is_none(), || {
             format!("{call}: answer {answer:#x}, expected {wanted_answer:#x}; {difference:?}")
         });

@@ -81,29 +81,20 @@ impl Sound {
     pub fn calls(&self, prng: &mut Prng) -> Vec<Call> {
         let absent = random_sale(prng, 7, u32::MAX);
         let ends = self.sold.first().into_iter().chain(self.sold.last());
-        let sales: Vec<&Sale> = ends.chain([&absent]).collect();
         let named = self.sold.last().unwrap_or(&absent);
         let other = prng.bytes(32);
         let mut calls = Vec::new();
         for entry in of_store() {
-            let sales = if entry.takes(Arg::Machine) {
-                &sales[..]
-            } else {
-                &[&absent]
-            };
-            calls.extend(
-                sales
-                    .iter()
-                    .map(|sold| on_store(entry, &self.key, &self.bytes, sold)),
-            );
-            let sold = if entry.takes(Arg::Tail) {
-                &absent
-            } else {
-                named
-            };
+            let mut push = |key, sold| calls.push(on_store(entry, key, &self.bytes, sold));
+            push(&self.key, &absent);
+            if entry.takes(Arg::Machine) {
+                ends.clone().for_each(|sold| push(&self.key, sold));
+            }
             if entry.takes(Arg::Key) {
-                let keys = [&other, &self.key[1..]];
-                calls.extend(keys.map(|key| on_store(entry, key, &self.bytes, sold)));
+                let takes = entry.takes(Arg::Tail);
+                let sold = if takes { &absent } else { named };
+                push(&other, sold);
+                push(&self.key[1..], sold);
             }
         }
         calls
