@@ -65,9 +65,14 @@ impl Check {
         after
     }
 
-    /// Compares `call` and holds it against its law. Returns the answer and the arguments afterwards.
+    /// Compares `call` and holds it against its law. Refused with another number than 9, it has to
+    /// change nothing. Returns the answer and the arguments afterwards.
     pub fn obeys(&mut self, call: &Call) -> (u64, Call) {
         let (answer, after) = self.compare(call);
+        if !matches!(answer >> 32, 0 | 9) {
+            let unchanged = after.values == call.values;
+            self.record(unchanged, || format!("{call}: refused, and changed"));
+        }
         (call.entry.law)(self, call, answer, &after);
         (answer, after)
     }
