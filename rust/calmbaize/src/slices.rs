@@ -7,10 +7,10 @@
 
 /// Makes a C call. A buffer, with `&` or `&mut` before its name, goes as its pointer and its length.
 macro_rules! call {
-    ($function:ident($($argument:tt)*)) => {
+    ($function:ident; $($argument:tt)*) => {
         call!(@ $function [] $($argument)*,)
     };
-    (@ $function:ident [$($done:tt)*] $(,)?) => {
+    (@ $function:ident [$($done:tt)*]) => {
         // SAFETY: each pointer is valid for its length, or for what the call takes, and a mutable
         // borrow overlaps no other.
         unsafe { crate::ffi::$function($($done)*) }
@@ -59,15 +59,7 @@ pub fn seal(
     message: &[u8],
     output: &mut [u8],
 ) -> Result<usize, Refusal> {
-    value(call!(calmbaize_seal(
-        mode,
-        rounds,
-        &key,
-        &nonce,
-        &header,
-        &message,
-        &mut output
-    )))
+    value(call!(calmbaize_seal; mode, rounds, &key, &nonce, &header, &message, &mut output))
 }
 
 /// Verifies and decrypts `parcel` and writes its message to the first `parcel.len() - TAG_LEN`
@@ -101,15 +93,7 @@ pub fn open(
     parcel: &[u8],
     output: &mut [u8],
 ) -> Result<usize, Refusal> {
-    value(call!(calmbaize_open(
-        mode,
-        rounds,
-        &key,
-        &nonce,
-        &header,
-        &parcel,
-        &mut output
-    )))
+    value(call!(calmbaize_open; mode, rounds, &key, &nonce, &header, &parcel, &mut output))
 }
 
 /// Verifies and decrypts `parcel` as [`open`] does, but under the old start, that of versions before
@@ -140,15 +124,7 @@ pub fn open_old(
     parcel: &[u8],
     output: &mut [u8],
 ) -> Result<usize, Refusal> {
-    value(call!(calmbaize_open_old(
-        mode,
-        rounds,
-        &key,
-        &nonce,
-        &header,
-        &parcel,
-        &mut output
-    )))
+    value(call!(calmbaize_open_old; mode, rounds, &key, &nonce, &header, &parcel, &mut output))
 }
 
 /// Seals the message of `parcel`, one of the old start, again under the new start with the same
@@ -185,15 +161,7 @@ pub fn convert(
     parcel: &[u8],
     output: &mut [u8],
 ) -> Result<usize, Refusal> {
-    value(call!(calmbaize_convert(
-        mode,
-        rounds,
-        &key,
-        &nonce,
-        &header,
-        &parcel,
-        &mut output
-    )))
+    value(call!(calmbaize_convert; mode, rounds, &key, &nonce, &header, &parcel, &mut output))
 }
 
 /// Seals as [`seal`] does, the same parcel, with all masks from one run of words, which it makes in
@@ -231,16 +199,9 @@ pub fn seal_run(
     output: &mut [u8],
     words: &mut [u64],
 ) -> Result<usize, Refusal> {
-    value(call!(calmbaize_seal_run(
-        mode,
-        rounds,
-        &key,
-        &nonce,
-        &header,
-        &message,
-        &mut output,
-        &mut words
-    )))
+    value(call!(
+        calmbaize_seal_run; mode, rounds, &key, &nonce, &header, &message, &mut output, &mut words
+    ))
 }
 
 /// Opens as [`open`] does, with all masks from one run of words, which it makes in `words`. It opens
@@ -278,16 +239,9 @@ pub fn open_run(
     output: &mut [u8],
     words: &mut [u64],
 ) -> Result<usize, Refusal> {
-    value(call!(calmbaize_open_run(
-        mode,
-        rounds,
-        &key,
-        &nonce,
-        &header,
-        &parcel,
-        &mut output,
-        &mut words
-    )))
+    value(call!(
+        calmbaize_open_run; mode, rounds, &key, &nonce, &header, &parcel, &mut output, &mut words
+    ))
 }
 
 /// Writes the block reached from `start` by the step bytes `steps` to the first
@@ -312,7 +266,7 @@ pub fn open_run(
 /// assert_eq!((refusal.ground, refusal.place), (Ground::Step, 1));
 /// ```
 pub fn walk(start: &[u8], steps: &[u8], output: &mut [u8]) -> Result<usize, Refusal> {
-    value(call!(calmbaize_walk(&start, &steps, &mut output)))
+    value(call!(calmbaize_walk; &start, &steps, &mut output))
 }
 
 /// Writes the block after `alpha`, then `beta`, then `gamma` steps from `start`, back steps where
@@ -342,13 +296,7 @@ pub fn jump(
     gamma: i32,
     output: &mut [u8],
 ) -> Result<usize, Refusal> {
-    value(call!(calmbaize_jump(
-        &start,
-        alpha,
-        beta,
-        gamma,
-        &mut output
-    )))
+    value(call!(calmbaize_jump; &start, alpha, beta, gamma, &mut output))
 }
 
 // A value of 32 bits is a `usize` on every machine that can hold the longest message.

@@ -22,7 +22,7 @@ use crate::{ffi, Refusal, Sale, NONCE_TAIL_LEN};
 /// assert_eq!(store::format(&mut [0xaa; 255]), Err(Ground::StoreForm.into()));
 /// ```
 pub fn format(store: &mut [u8]) -> Result<(), Refusal> {
-    ffi::decode(call!(calmbaize_store_format(&mut store))).map(|_| ())
+    ffi::decode(call!(calmbaize_store_format; &mut store)).map(|_| ())
 }
 
 /// Seals `sale` into the first free cell of `store` and puts it at the front of the sales.
@@ -55,17 +55,10 @@ pub fn take(
     sale: &Sale,
 ) -> Result<u32, Refusal> {
     let (nonce_tail, clock) = (nonce_tail.as_ptr(), sale.clock.as_ptr());
-    ffi::decode(call!(calmbaize_store_take(
-        &key,
-        &mut store,
-        sale.machine,
-        sale.sale,
-        nonce_tail,
-        sale.amount,
-        sale.column,
-        sale.means,
-        clock
-    )))
+    ffi::decode(call!(
+        calmbaize_store_take; &key, &mut store, sale.machine, sale.sale,
+        nonce_tail, sale.amount, sale.column, sale.means, clock
+    ))
 }
 
 /// Takes a sale out of `store`, of two alike the first in the chain, and puts its cell, zeroed, at
@@ -94,9 +87,7 @@ pub fn take(
 /// # Ok::<(), Refusal>(())
 /// ```
 pub fn cancel(key: &[u8], store: &mut [u8], machine: u32, sale: u32) -> Result<u32, Refusal> {
-    ffi::decode(call!(calmbaize_store_cancel(
-        &key, &mut store, machine, sale
-    )))
+    ffi::decode(call!(calmbaize_store_cancel; &key, &mut store, machine, sale))
 }
 
 /// The cash total of `store`: the sum of the amounts whose means is
@@ -124,7 +115,7 @@ pub fn cancel(key: &[u8], store: &mut [u8], machine: u32, sale: u32) -> Result<u
 /// ```
 pub fn total(key: &[u8], store: &[u8]) -> Result<u64, Refusal> {
     let mut total = 0;
-    let answer = call!(calmbaize_store_total(&key, &store, &raw mut total));
+    let answer = call!(calmbaize_store_total; &key, &store, &raw mut total);
     ffi::decode(answer).map(|_| total)
 }
 
@@ -150,5 +141,5 @@ pub fn total(key: &[u8], store: &[u8]) -> Result<u64, Refusal> {
 /// # Ok::<(), Refusal>(())
 /// ```
 pub fn read(store: &[u8], machine: u32, sale: u32) -> Result<usize, Refusal> {
-    value(call!(calmbaize_store_read(&store, machine, sale)))
+    value(call!(calmbaize_store_read; &store, machine, sale))
 }
