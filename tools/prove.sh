@@ -13,11 +13,11 @@ set -u
 . "$(dirname "$0")/lib.sh"
 need rt '' || exit 2
 # rt starts so many checks, and the next ones when all of them have ended: with one for each core some
-# cores wait for the slowest. A check takes up to 1 GB.
+# cores wait for the slowest. A check takes up to 2 GB.
 if [ -z "${RT_JOBS:-}" ]; then
     RT_JOBS=$((6 * $(nproc)))
     gigabytes=$(awk '/^MemAvailable:/ { print int($2 / 1024 / 1024) }' /proc/meminfo)
-    [ "$RT_JOBS" -le "$gigabytes" ] || RT_JOBS=$gigabytes
+    [ "$RT_JOBS" -le $((gigabytes / 2)) ] || RT_JOBS=$((gigabytes / 2))
     [ "$RT_JOBS" -ge 1 ] || RT_JOBS=1
     export RT_JOBS
 fi
