@@ -1,7 +1,7 @@
 -- The bench sheet's cases that are proved, P1 to P11 and the limits of the checks, and rows of the cards, as rows of one table (document 01, "Bench sheet"; document 02, cards 1, 2, 4, 5 and 6). Assumes nothing.
 use mathlib.Core.Path.{_≡_}
 use mathlib.Core.List.{List, [], _∷_, _++_}
-use Prim.Native.Nat.{ℕ, suc, _+_, _-_, _<_}
+use Prim.Native.Nat.{ℕ, suc, _+_, _-_, _%_, _<_}
 use lib.IntN.{pos, negsuc}
 use lib.ListN.{length, getD, set, drop}
 use lib.Bits.{bitXor}
@@ -15,22 +15,23 @@ use Rattle.mem.specs.Mem.{startBlock, oldStartBlock, oldStartOf}
 use Rattle.blockplan.specs.Parcel.{parcelOf}
 use Rattle.opp.specs.Opp.{padded}
 use Rattle.modes.specs.Modes.{modeOf}
-use Rattle.answers.specs.Answers.{groundNumber, numberOf, valueOf}
+use Rattle.answers.specs.Answers.{groundNumber}
 use Rattle.answers.specs.declared.Check.{Check}
 use Rattle.answers.specs.declared.Check.the-variants.{Clear, Fails}
 use Rattle.answers.specs.declared.Answer.{Answer}
+use Rattle.answers.specs.declared.Answer.the-variants.{Done, Refused}
 use Rattle.checks.specs.Checks.{sealChecks, openChecks, convertChecks, runLength, sealRunChecks, openRunChecks}
 use Rattle.sealing.specs.Sealing.{sealCall, openCall, openOldCall}
 use Rattle.converting.specs.Converting.{convertCall}
 use Rattle.run_sealing.specs.RunSealing.{sealRunCall, openRunCall}
 use Rattle.walking.specs.Walking.{walkChecks, jumpChecks}
-use Rattle.cells.specs.Cells.{free}
+use Rattle.cells.specs.Cells.{free, cellNamed, cellBefore}
 use Rattle.cells.specs.Changes.{fresh, filled, emptied}
 use Rattle.sales.specs.declared.Sale.{Sale}
-use Rattle.sales.specs.Sale.{bodyFor, cashOf}
-use Rattle.store.specs.Store.{formatChecks, takeChecks, readChecks}
+use Rattle.sales.specs.Sale.{cashOf}
+use Rattle.store.specs.Store.{formatChecks, takeChecks, cancelChecks, totalChecks, readChecks, formatCall, takeCall, cancelCall, totalCall, readPart, readRefusal, readOffset}
 
--- a case: what the definitions give, and what the sheet says
+-- a case: what the definitions give, and what it must be
 pub record Row : Type 0 where
   pub got : List ℕ
   pub want : List ℕ
@@ -71,12 +72,16 @@ sampleKey = tab (λ i. 16 + i) 32
 unfoldable pub sampleNonce : List ℕ
 sampleNonce = tab (λ i. i) 16
 
--- a header and a message of unlike bytes, of up to 256
+-- a header and a message of that many bytes, the message of up to 256: no two blocks alike
 unfoldable pub sampleHeader : ℕ → List ℕ
-sampleHeader n = tab (λ i. 255 - i) n
+sampleHeader n = tab (λ i. 255 - i % 251) n
 
 unfoldable pub sampleMessage : ℕ → List ℕ
 sampleMessage n = tab (λ i. i) n
+
+-- an output before a call, so that what is cleared, what is written and what stays are told apart
+unfoldable pub nines : ℕ → List ℕ
+nines n = tab (λ i. 9) n
 
 -- the sixteen words of that key and nonce before P, with these two in words 10 and 11
 unfoldable pub sampleWords : ℕ → ℕ → List ℕ
@@ -85,52 +90,53 @@ sampleWords w10 w11 =
     ∷ 0x1716151413121110 ∷ 0x1f1e1d1c1b1a1918 ∷ 0x2726252423222120 ∷ 0x2f2e2d2c2b2a2928 ∷ []
 
 -- a tag by its four words
-unfoldable pub tag : ℕ → ℕ → ℕ → ℕ → List ℕ
-tag w0 w1 w2 w3 = lowBytes 8 w0 ++ (lowBytes 8 w1 ++ (lowBytes 8 w2 ++ lowBytes 8 w3))
+unfoldable pub tagWords : ℕ → ℕ → ℕ → ℕ → List ℕ
+tagWords w0 w1 w2 w3 = lowBytes 8 w0 ++ (lowBytes 8 w1 ++ (lowBytes 8 w2 ++ lowBytes 8 w3))
 
 -- the tag of the empty message with that key and nonce over the section 4 start, OPP with six rounds and MRO with four; no passage of documents 01 and 02
 unfoldable pub oldOpp : List ℕ
-oldOpp = tag 0x71fdb03dd1b2e91e 0x8058ed009340cf93 0xe069c35c13e7debe 0x514c91ccfc7057ba
+oldOpp = tagWords 0x71fdb03dd1b2e91e 0x8058ed009340cf93 0xe069c35c13e7debe 0x514c91ccfc7057ba
 
 unfoldable pub oldMro : List ℕ
-oldMro = tag 0x06e87aeac9a18b13 0x8300ddbf924add88 0x5d333aa04a2b9dfb 0x0d2d029c95658f13
+oldMro = tagWords 0x06e87aeac9a18b13 0x8300ddbf924add88 0x5d333aa04a2b9dfb 0x0d2d029c95658f13
 
 -- that of the empty message with zero key and nonce and four rounds, from card 4's start, OPP and MRO; no passage of documents 01 and 02
 unfoldable pub newOpp : List ℕ
-newOpp = tag 0x497fc0822da209e5 0xcc7f9305b4dfc236 0x6edc4e9f41c40436 0x6f0ca90236c96054
+newOpp = tagWords 0x497fc0822da209e5 0xcc7f9305b4dfc236 0x6edc4e9f41c40436 0x6f0ca90236c96054
 
 unfoldable pub newMro : List ℕ
-newMro = tag 0x1802b346e068fc82 0x82aad085481337eb 0xf36f7b664cdc81b1 0x7bc30c42aabf07b6
+newMro = tagWords 0x1802b346e068fc82 0x82aad085481337eb 0xf36f7b664cdc81b1 0x7bc30c42aabf07b6
 
--- parcels of that header of 5 bytes and that message of 3, with sampleKey, sampleNonce and four rounds from card 4's start, OPP and MRO; no passage of documents 01 and 02
+-- parcels of sampleHeader of 5 bytes and sampleMessage of 3, with sampleKey, sampleNonce and four rounds from card 4's start, OPP and MRO; no passage of documents 01 and 02
 unfoldable pub newOppParcel : List ℕ
-newOppParcel = 0x7f ∷ 0xb4 ∷ 0x60 ∷ tag 0xc5c6ef4f7c2fed32 0x6548ebf02f29cf36 0xa68345fbad1bc615 0x19502cbcb9ed0642
+newOppParcel = 0x7f ∷ 0xb4 ∷ 0x60 ∷ tagWords 0xc5c6ef4f7c2fed32 0x6548ebf02f29cf36 0xa68345fbad1bc615 0x19502cbcb9ed0642
 
 unfoldable pub newMroParcel : List ℕ
-newMroParcel = 0x88 ∷ 0xad ∷ 0x78 ∷ tag 0x3297f71cfe06b4fd 0x3be5246774cbf91f 0x27619c44ab603f1c 0x30217af8aefcb91b
+newMroParcel = 0x88 ∷ 0xad ∷ 0x78 ∷ tagWords 0x3297f71cfe06b4fd 0x3be5246774cbf91f 0x27619c44ab603f1c 0x30217af8aefcb91b
 
--- what seal writes for a header and a message of these lengths, with the same key, nonce and rounds
+-- what seal writes for sampleHeader and sampleMessage of these lengths, with the same key, nonce and rounds
 unfoldable pub sampleParcel : ℕ → ℕ → ℕ → List ℕ
 sampleParcel mode header message =
-    sealCall mode 4 sampleKey sampleNonce (sampleHeader header) (sampleMessage message) (zeros (message + 32)) .1
+    sealCall mode 4 sampleKey sampleNonce (sampleHeader header) (sampleMessage message) (nines (message + 32)) .1
 
 -- the parcel of a message with zero key and nonce and an empty header, over the section 4 start
 unfoldable pub sealedOld : ℕ → ℕ → List ℕ → List ℕ
 sealedOld mode rounds message = parcelOf (modeOf mode rounds (oldStartOf rounds (zeros 32) (zeros 16))) [] message
 
 -- what checks find: the number and the place, or 0 and 0
-abbrev pub found : Check → List ℕ
-found Clear = 0 ∷ 0 ∷ []
-found (Fails ground place) = groundNumber ground ∷ place ∷ []
+abbrev pub finds : Check → List ℕ
+finds Clear = 0 ∷ 0 ∷ []
+finds (Fails ground place) = groundNumber ground ∷ place ∷ []
 
 -- what a call answers, the number, 0 where nothing is refused, and the value or the place; then what it leaves in the output
 unfoldable pub answered : Answer × List ℕ → List ℕ
-answered r = numberOf (r .0) ∷ valueOf (r .0) ∷ r .1
+answered (Done value, out) = 0 ∷ value ∷ out
+answered (Refused ground place, out) = groundNumber ground ∷ place ∷ out
 
--- opening a parcel of that header from a run, into an output of four bytes
-unfoldable pub openedFromRun : ℕ → List ℕ → List ℕ
-openedFromRun mode parcel =
-    let r = openRunCall mode 4 sampleKey sampleNonce (sampleHeader 5) parcel (9 ∷ 9 ∷ 9 ∷ 9 ∷ []) (zeros 21) in
+-- opening a parcel of sampleHeader of 5 bytes from a run, into an output of four bytes
+unfoldable pub openedByRun : ℕ → List ℕ → List ℕ
+openedByRun mode parcel =
+    let r = openRunCall mode 4 sampleKey sampleNonce (sampleHeader 5) parcel (nines 4) (zeros 21) in
     answered (r .0, r .1 .0)
 
 -- a sale of 150 cents
@@ -140,6 +146,21 @@ paid means = record { machine = 7; sale = 1; tail = zeros 8; amount = 150; colum
 -- 61 bytes that begin with a machine and a sale number
 unfoldable pub bodyNamed : ℕ → ℕ → List ℕ
 bodyNamed machine sale = lowBytes 4 machine ++ (lowBytes 4 sale ++ zeros 53)
+
+-- a store of n cells in which sales 1 and 2 of machine 7 were taken, of bytes that don't open
+unfoldable pub twoSales : ℕ → List ℕ
+twoSales n = filled (bodyNamed 7 2) (filled (bodyNamed 7 1) (fresh n))
+
+-- the sale of 150 cents as its cell's 61 bytes, means 1, sealed with sampleKey from card 4's start; no passage of documents 01 and 02
+unfoldable pub soldBody : List ℕ
+soldBody =
+    7 ∷ 0 ∷ 0 ∷ 0 ∷ 1 ∷ (zeros 11
+    ++ (0xb1 ∷ 0x69 ∷ 0x2e ∷ 0x62 ∷ 0x40 ∷ 0x70 ∷ 0xb2 ∷ 0xb2 ∷ 0x69 ∷ 0xfa ∷ 0xf0 ∷ 0x9c ∷ 0xae
+    ∷ tagWords 0x97ee3b7cf3049f21 0x52e9c6a734e9815f 0xac3e9f2dd5c7620b 0x83fc528bec786a11))
+
+-- a store of two cells that holds it: no cell is free
+unfoldable pub soldStore : List ℕ
+soldStore = 1 ∷ (zeros 63 ++ (0 ∷ 0 ∷ 1 ∷ soldBody))
 
 -- the bench sheet in its order, P10 and P11 over the section 4 start; then the table's other grounds, and rows of the cards, card by card. Sealed bytes that no document has
 -- are as two implementations outside the proofs, in C and in Rust, compute them
@@ -159,47 +180,76 @@ table =
     ∷ record { got = sealedOld 2 4 []; want = zeros 32 }
     ∷ record { got = sealedOld 1 4 (zeros 128); want = zeros 160 }  -- P11, over the section 4 start; with every round count in `zero-parcel` below
     -- ---- the sheet's refusals and limits
-    ∷ record { got = found (sealChecks 1 5 31 16 0 0 32); want = 2 ∷ 0 ∷ [] }  -- rounds 5 and key 31 bytes
-    ∷ record { got = found (sealChecks 1 4 32 16 4096 65536 65568); want = 0 ∷ 0 ∷ [] }  -- header 4,096 and message 65,536 pass
-    ∷ record { got = found (sealChecks 2 6 32 16 4097 65536 65568); want = 5 ∷ 0 ∷ [] }  -- header 4,097
-    ∷ record { got = found (sealChecks 2 6 32 16 4096 65537 65569); want = 6 ∷ 0 ∷ [] }  -- message 65,537
-    ∷ record { got = found (openChecks 1 4 32 16 0 31 0); want = 8 ∷ 0 ∷ [] }  -- parcel of 31 bytes, and of 32: an empty message or 9, as P10's among card 4's rows
-    ∷ record { got = found (openChecks 2 6 32 16 0 32 0); want = 0 ∷ 0 ∷ [] }
-    ∷ record { got = found (sealChecks 1 4 32 16 0 128 159); want = 7 ∷ 0 ∷ [] }  -- output 159 for a message of 128
-    ∷ record { got = found (jumpChecks 128 (pos 65536) (negsuc 65535) (pos 0) 128); want = 0 ∷ 0 ∷ [] }  -- net counts 65,536 and -65,536 pass
-    ∷ record { got = found (jumpChecks 128 (pos 0) (pos 65537) (pos 0) 128); want = 11 ∷ 0 ∷ [] }  -- 65,537
-    ∷ record { got = found (walkChecks 128 (1 ∷ 7 ∷ 0 ∷ []) 128); want = 12 ∷ 1 ∷ [] }  -- steps 1, 7, 0
+    ∷ record { got = finds (sealChecks 1 5 31 15 4097 65537 0); want = 2 ∷ 0 ∷ [] }  -- rounds 5 and key 31 bytes
+    ∷ record { got = finds (sealChecks 1 4 32 16 4096 65536 65568); want = 0 ∷ 0 ∷ [] }  -- header 4,096 and message 65,536 pass
+    ∷ record { got = finds (sealChecks 2 6 32 16 4097 65537 0); want = 5 ∷ 0 ∷ [] }  -- header 4,097
+    ∷ record { got = finds (sealChecks 2 6 32 16 4096 65537 0); want = 6 ∷ 0 ∷ [] }  -- message 65,537
+    ∷ record { got = finds (openChecks 1 4 32 16 0 31 0); want = 8 ∷ 0 ∷ [] }  -- parcel of 31 bytes, and of 32: an empty message or 9, as P10's among card 4's rows
+    ∷ record { got = finds (openChecks 2 6 32 16 0 32 0); want = 0 ∷ 0 ∷ [] }
+    ∷ record { got = finds (sealChecks 1 4 32 16 0 128 159); want = 7 ∷ 0 ∷ [] }  -- output 159 for a message of 128
+    ∷ record { got = finds (jumpChecks 128 (pos 65536) (negsuc 65535) (pos 0) 128); want = 0 ∷ 0 ∷ [] }  -- net counts 65,536 and -65,536 pass
+    ∷ record { got = finds (jumpChecks 128 (pos 65537) (pos 0) (pos 0) 0); want = 11 ∷ 0 ∷ [] }  -- 65,537 of each kind, and -65,537
+    ∷ record { got = finds (jumpChecks 128 (pos 0) (pos 65537) (pos 0) 0); want = 11 ∷ 0 ∷ [] }
+    ∷ record { got = finds (jumpChecks 128 (pos 0) (pos 0) (pos 65537) 0); want = 11 ∷ 0 ∷ [] }
+    ∷ record { got = finds (jumpChecks 128 (pos 0) (negsuc 65536) (pos 0) 0); want = 11 ∷ 0 ∷ [] }
+    ∷ record { got = finds (walkChecks 128 (1 ∷ 7 ∷ 0 ∷ []) 0); want = 12 ∷ 1 ∷ [] }  -- steps 1, 7, 0
     ∷ record { got = gamma (word 0 1); want = set (set (word 0 1) 14 0x0020000000000000) 15 0x0020000000000000 }  -- maskwalk's example
-    -- ---- grounds of document 01's table that the sheet has no line for, where those behind them hold too
-    ∷ record { got = found (sealChecks 3 5 31 15 4097 0 0); want = 1 ∷ 0 ∷ [] }  -- mode 3
-    ∷ record { got = found (openChecks 2 4 32 15 4097 31 0); want = 4 ∷ 0 ∷ [] }  -- nonce 15 bytes
-    ∷ record { got = found (walkChecks 127 (7 ∷ []) 0); want = 10 ∷ 0 ∷ [] }  -- start 127 bytes
-    ∷ record { got = found (jumpChecks 127 (pos 65537) (pos 0) (pos 0) 0); want = 10 ∷ 0 ∷ [] }
-    ∷ record { got = found (walkChecks 128 (times (λ s. 7 ∷ s) 4097 []) 0); want = 13 ∷ 0 ∷ [] }  -- 4,097 steps
+    -- ---- document 01's table where the sheet has no line. Here and above each ground behind the one found holds too, if it can beside it
+    ∷ record { got = finds (sealChecks 3 5 31 15 4097 65537 0); want = 1 ∷ 0 ∷ [] }  -- mode 3
+    ∷ record { got = finds (sealChecks 1 4 31 15 4097 65537 0); want = 3 ∷ 0 ∷ [] }  -- key 31 bytes
+    ∷ record { got = finds (openChecks 2 4 32 15 4097 31 0); want = 4 ∷ 0 ∷ [] }  -- nonce 15 bytes
+    ∷ record { got = finds (openChecks 2 4 32 16 4097 31 0); want = 5 ∷ 0 ∷ [] }  -- header 4,097 and parcel 31 bytes
+    ∷ record { got = finds (openChecks 1 4 32 16 4096 65568 65536); want = 0 ∷ 0 ∷ [] }  -- parcel 65,568 passes
+    ∷ record { got = finds (openChecks 1 4 32 16 4096 65569 0); want = 6 ∷ 0 ∷ [] }  -- parcel 65,569
+    ∷ record { got = finds (openChecks 1 4 32 16 0 160 127); want = 7 ∷ 0 ∷ [] }  -- output 127 for a parcel of 160
+    ∷ record { got = finds (walkChecks 128 [] 127); want = 7 ∷ 0 ∷ [] }  -- output 127 for a block
+    ∷ record { got = finds (jumpChecks 128 (pos 0) (pos 0) (pos 0) 127); want = 7 ∷ 0 ∷ [] }
+    ∷ record { got = finds (walkChecks 127 (times (λ s. 7 ∷ s) 4097 []) 0); want = 10 ∷ 0 ∷ [] }  -- start 127 bytes
+    ∷ record { got = finds (jumpChecks 127 (pos 65537) (pos 0) (pos 0) 0); want = 10 ∷ 0 ∷ [] }
+    ∷ record { got = finds (walkChecks 128 (times (λ s. 6 ∷ s) 4095 (1 ∷ [])) 128); want = 0 ∷ 0 ∷ [] }  -- 4,096 steps pass
+    ∷ record { got = finds (walkChecks 128 (times (λ s. 7 ∷ s) 4097 []) 0); want = 13 ∷ 0 ∷ [] }  -- 4,097 steps
     -- ---- card 1: the store
     ∷ record { got = fresh 2; want = 0 ∷ 0 ∷ 1 ∷ 0 ∷ zeros 124 }  -- a formatted store: two cells, and three of them chained
     ∷ record { got = free (fresh 3); want = 1 ∷ 2 ∷ [] }
-    ∷ record { got = found (formatChecks (zeros 64)); want = 14 ∷ 0 ∷ [] }  -- one cell, two, and a byte more
-    ∷ record { got = found (formatChecks (zeros 128)); want = 0 ∷ 0 ∷ [] }
-    ∷ record { got = found (formatChecks (zeros 129)); want = 14 ∷ 0 ∷ [] }
-    ∷ record { got = found (takeChecks (zeros 32) (paid 1) (fresh 2)); want = 0 ∷ 0 ∷ [] }  -- a take passes, with a key of 32 bytes
-    ∷ record { got = found (takeChecks (zeros 31) (paid 1) (fresh 2)); want = 3 ∷ 0 ∷ [] }
-    ∷ record { got = found (takeChecks (zeros 32) (paid 1) (filled (bodyNamed 7 1) (fresh 2))); want = 16 ∷ 0 ∷ [] }  -- the same numbers again: 16 before 15
-    ∷ record { got = found (takeChecks (zeros 32) (paid 1) (filled (bodyNamed 7 2) (fresh 2))); want = 15 ∷ 0 ∷ [] }
-    ∷ record { got = found (readChecks 7 1 (fresh 2)); want = 16 ∷ 0 ∷ [] }  -- absent, and there
-    ∷ record { got = found (readChecks 7 1 (filled (bodyNamed 7 1) (fresh 2))); want = 0 ∷ 0 ∷ [] }
-    ∷ record { got = emptied 0 1 (filled (bodyNamed 7 1) (fresh 2)); want = fresh 2 }  -- taken and cancelled: as it was
+    ∷ record { got = finds (formatChecks (zeros 64)); want = 14 ∷ 0 ∷ [] }  -- one cell, two, and a byte more
+    ∷ record { got = finds (formatChecks (zeros 128)); want = 0 ∷ 0 ∷ [] }
+    ∷ record { got = finds (formatChecks (zeros 129)); want = 14 ∷ 0 ∷ [] }
+    ∷ record { got = answered (formatCall (nines 128)); want = 0 ∷ 0 ∷ fresh 2 }
+    ∷ record { got = finds (takeChecks (zeros 31) (paid 1) (zeros 64)); want = 3 ∷ 0 ∷ [] }  -- 3 before 14
+    ∷ record { got = finds (readChecks 7 1 (zeros 64)); want = 14 ∷ 0 ∷ [] }  -- each ground of 14: one cell alone,
+    ∷ record { got = finds (readChecks 7 1 (set (fresh 2) 2 2)); want = 14 ∷ 0 ∷ [] }  -- an index past the last cell, in cell 0 and in another,
+    ∷ record { got = finds (readChecks 7 1 (set (fresh 2) 64 2)); want = 14 ∷ 0 ∷ [] }
+    ∷ record { got = finds (readChecks 7 1 (set (fresh 2) 66 1)); want = 14 ∷ 0 ∷ [] }  -- kind 1 among the free,
+    ∷ record { got = finds (readChecks 7 1 (set (filled (bodyNamed 7 1) (fresh 2)) 66 2)); want = 14 ∷ 0 ∷ [] }  -- kind 2 among the sales,
+    ∷ record { got = finds (readChecks 7 1 (set (fresh 2) 2 0)); want = 14 ∷ 0 ∷ [] }  -- a cell in no chain,
+    ∷ record { got = finds (readChecks 7 1 (set (fresh 2) 64 1)); want = 14 ∷ 0 ∷ [] }  -- a ring
+    ∷ record { got = finds (takeChecks (zeros 32) (paid 1) (filled (bodyNamed 7 1) (fresh 2))); want = 16 ∷ 0 ∷ [] }  -- the same numbers again: 16 before 15
+    ∷ record { got = finds (takeChecks (zeros 32) (paid 1) (filled (bodyNamed 7 2) (fresh 2))); want = 15 ∷ 0 ∷ [] }
+    ∷ record { got = finds (cancelChecks (zeros 32) 7 3 (twoSales 3)); want = 16 ∷ 0 ∷ [] }  -- absent on cancel
+    ∷ record { got = finds (cancelChecks sampleKey 7 1 (twoSales 3)); want = 9 ∷ 1 ∷ [] }  -- 9 with its cell: of the sale named, and of the first in the chain
+    ∷ record { got = finds (totalChecks sampleKey (twoSales 3)); want = 9 ∷ 2 ∷ [] }
+    ∷ record { got = answered (readRefusal 7 1 (fresh 2), readPart 7 1 (fresh 2)); want = 16 ∷ 0 ∷ [] }  -- absent on read, and there: the refusal and the part,
+    ∷ record { got = answered (readRefusal 7 1 (twoSales 3), readPart 7 1 (twoSales 3)); want = 0 ∷ 0 ∷ bodyNamed 7 1 }
+    ∷ record { got = answered (readOffset 7 1 (twoSales 3), []); want = 0 ∷ 67 ∷ [] }  -- and the offset for C
+    ∷ record { got = emptied 0 1 (filled (bodyNamed 7 1) (fresh 3)); want = fresh 3 }  -- taken and cancelled: as it was
     ∷ record {
-      got = bodyFor sampleKey (paid 1);
-      want = 7 ∷ 0 ∷ 0 ∷ 0 ∷ 1 ∷ (zeros 11
-          ++ (0xb1 ∷ 0x69 ∷ 0x2e ∷ 0x62 ∷ 0x40 ∷ 0x70 ∷ 0xb2 ∷ 0xb2 ∷ 0x69 ∷ 0xfa ∷ 0xf0 ∷ 0x9c ∷ 0xae
-          ∷ tag 0x97ee3b7cf3049f21 0x52e9c6a734e9815f 0xac3e9f2dd5c7620b 0x83fc528bec786a11));
-    }  -- a sale's 61 bytes, sealed from card 4's start; no passage of documents 01 and 02
+      got =
+          let s = filled (bodyNamed 7 3) (twoSales 5) in
+          emptied (cellBefore 7 2 s) (cellNamed 7 2 s) s;
+      want = 3 ∷ 0 ∷ 2 ∷ (zeros 61
+          ++ ((0 ∷ 0 ∷ 1 ∷ bodyNamed 7 1)
+          ++ ((4 ∷ zeros 63)
+          ++ ((1 ∷ 0 ∷ 1 ∷ bodyNamed 7 3)
+          ++ zeros 64))));
+    }  -- three taken and the middle one cancelled: its cell is first among the free
+    ∷ record { got = answered (takeCall sampleKey (paid 1) (fresh 2)); want = 0 ∷ 1 ∷ soldStore }  -- a whole take, total and cancel
+    ∷ record { got = answered (totalCall sampleKey soldStore, []); want = 0 ∷ 150 ∷ [] }
+    ∷ record { got = answered (cancelCall sampleKey 7 1 soldStore); want = 0 ∷ 150 ∷ fresh 2 }
     ∷ record { got = cashOf (paid 1) ∷ cashOf (paid 2) ∷ []; want = 150 ∷ 0 ∷ [] }  -- means 1 counts, means 2 does not
     -- ---- card 2: rounds
-    ∷ record { got = found (sealChecks 1 8 32 16 0 0 32); want = 0 ∷ 0 ∷ [] }  -- 8 and 12 pass, 10 does not
-    ∷ record { got = found (openChecks 2 12 32 16 0 32 0); want = 0 ∷ 0 ∷ [] }
-    ∷ record { got = found (openChecks 1 10 32 16 0 32 0); want = 2 ∷ 0 ∷ [] }
+    ∷ record { got = finds (sealChecks 1 8 32 16 0 0 32); want = 0 ∷ 0 ∷ [] }  -- 8 and 12 pass, 10 does not
+    ∷ record { got = finds (openChecks 2 12 32 16 0 32 0); want = 0 ∷ 0 ∷ [] }
+    ∷ record { got = finds (openChecks 1 10 32 16 0 32 0); want = 2 ∷ 0 ∷ [] }
     ∷ record {
       got = emptyDigest;
       want = 0x03590142f7026a78 ∷ 0x72d2522585fdc6c6 ∷ 0x614758e140472f91 ∷ 0x19541ff717e2868a
@@ -215,60 +265,60 @@ table =
     ∷ record { got = answered (openCall 1 4 (zeros 32) (zeros 16) [] (zeros 32) []); want = 9 ∷ 0 ∷ [] }
     ∷ record { got = answered (openOldCall 2 4 (zeros 32) (zeros 16) [] (zeros 32) []); want = 0 ∷ 0 ∷ [] }  -- MRO
     ∷ record { got = answered (openCall 2 4 (zeros 32) (zeros 16) [] (zeros 32) []); want = 9 ∷ 0 ∷ [] }
-    ∷ record { got = answered (openOldCall 1 4 (zeros 32) (zeros 16) [] (zeros 160) (zeros 128)); want = 0 ∷ 128 ∷ zeros 128 }  -- likewise P11's
-    ∷ record { got = answered (openCall 1 4 (zeros 32) (zeros 16) [] (zeros 160) (zeros 128)); want = 9 ∷ 0 ∷ zeros 128 }
+    ∷ record { got = answered (openOldCall 1 4 (zeros 32) (zeros 16) [] (zeros 160) (nines 129)); want = 0 ∷ 128 ∷ (zeros 128 ++ (9 ∷ [])) }  -- likewise P11's
+    ∷ record { got = answered (openCall 1 4 (zeros 32) (zeros 16) [] (zeros 160) (nines 129)); want = 9 ∷ 0 ∷ (zeros 128 ++ (9 ∷ [])) }
     ∷ record { got = answered (openOldCall 1 6 sampleKey sampleNonce [] oldOpp []); want = 0 ∷ 0 ∷ [] }  -- the empty message sealed from section 4's start, opened
     ∷ record { got = answered (openOldCall 2 4 sampleKey sampleNonce [] oldMro []); want = 0 ∷ 0 ∷ [] }
     -- sealed from card 4's start with a key that is not zero; no passage of documents 01 and 02
     ∷ record {
-      got = sealCall 1 12 sampleKey sampleNonce [] [] (zeros 32) .1;
-      want = tag 0xcb215bd593499c3f 0xb73a4e61a980aa54 0xeb5ddc07390000b6 0x91a1a84f27e1fd0b;
+      got = sealCall 1 12 sampleKey sampleNonce [] [] (nines 32) .1;
+      want = tagWords 0xcb215bd593499c3f 0xb73a4e61a980aa54 0xeb5ddc07390000b6 0x91a1a84f27e1fd0b;
     }  -- the empty message, OPP with twelve rounds
     ∷ record { got = sampleParcel 1 5 3; want = newOppParcel }  -- a leftover in header and message: under OPP the tag's mask is (0, 3, 1), and under MRO zeros alone are the padding
     ∷ record { got = sampleParcel 2 5 3; want = newMroParcel }
     ∷ record {
-      got = drop 120 (sampleParcel 1 133 131);
+      got = drop 120 (sampleParcel 1 261 131);
       want = lowBytes 8 0x56a58baee4f811cc
-          ++ (0xdf ∷ 0x6e ∷ 0x16 ∷ tag 0x6dcb1e6fa310dd03 0x84e396bf967adc07 0x6ea8c3868ff47541 0x485321c76c4ec534);
-    }  -- a whole block and a leftover in each, OPP and MRO: the last eight bytes of the block, the leftover, the tag
+          ++ (0xdf ∷ 0x6e ∷ 0x16 ∷ tagWords 0x306c1b021cc1d1c7 0x45f87f76479270d9 0xd152ce4df3e13e72 0xe3bd8685b8be0b6e);
+    }  -- a header of two blocks and a leftover, a message of one and a leftover, OPP and MRO: the last eight bytes of the block, the leftover, the tag
     ∷ record {
-      got = drop 120 (sampleParcel 2 133 131);
-      want = lowBytes 8 0x65323642f8b03859
-          ++ (0x97 ∷ 0x99 ∷ 0xed ∷ tag 0x15c7db1c46c67cdc 0x2bbf2fd10f536dbe 0x81fc8959e78a1147 0x6b65ef781c1b6cd0);
+      got = drop 120 (sampleParcel 2 261 131);
+      want = lowBytes 8 0x2ef4611be0ff7c5f
+          ++ (0x54 ∷ 0x7a ∷ 0x7e ∷ tagWords 0xe738b5c5e5b8731d 0xaa4260169377e067 0x715efab9d0b6b91a 0x2aa21e485d646aab);
     }
     ∷ record {
-      got = drop 248 (sampleParcel 1 256 256);
-      want = lowBytes 8 0x8683b5fcb1db6082 ++ tag 0xb1afe39665812f52 0x352408c89263109c 0x3285be4ccaa7956e 0x4a97bddc5dc0a741;
-    }  -- two whole blocks in each, OPP and MRO: the last eight bytes of the second, the tag
+      got = drop 248 (sampleParcel 1 133 256);
+      want = lowBytes 8 0x8683b5fcb1db6082 ++ tagWords 0xb639a0b22018e594 0x45abb2cfd5ee7fe9 0xe02cba39b1189b8a 0xc44501d5a0809b1c;
+    }  -- a header of one block and a leftover, a message of two blocks and none, OPP and MRO: the last eight bytes of the second, the tag
     ∷ record {
-      got = drop 248 (sampleParcel 2 256 256);
-      want = lowBytes 8 0x0e2d3234465644c2 ++ tag 0x657ffeac8d0ffc94 0xb736bb62f2a1e1ae 0xad93b1e0ddab882d 0x573526ace2e316e5;
+      got = drop 248 (sampleParcel 2 133 256);
+      want = lowBytes 8 0xa2e832eabb0f501b ++ tagWords 0xac14e24c3d07e9de 0xd9563f5e3d99bf68 0xa12e89fb04afd5e5 0x50ec6ad15afc4bc9;
     }
     -- ---- card 5: the converter
-    ∷ record { got = found (convertChecks 1 4 32 16 0 160 159); want = 7 ∷ 0 ∷ [] }  -- output 159 for a parcel of 160
-    ∷ record { got = found (convertChecks 1 4 32 16 0 160 160); want = 0 ∷ 0 ∷ [] }
-    ∷ record { got = answered (convertCall 1 4 (zeros 32) (zeros 16) [] (zeros 32) (zeros 33)); want = 0 ∷ 32 ∷ (newOpp ++ (0 ∷ [])) }  -- P10's parcels converted, OPP and MRO
-    ∷ record { got = answered (convertCall 2 4 (zeros 32) (zeros 16) [] (zeros 32) (zeros 33)); want = 0 ∷ 32 ∷ (newMro ++ (0 ∷ [])) }
-    ∷ record { got = answered (convertCall 2 4 (zeros 32) (zeros 16) [] newMro (zeros 32)); want = 17 ∷ 0 ∷ zeros 32 }  -- the new parcel is done already
-    ∷ record { got = answered (convertCall 2 4 (zeros 32) (zeros 16) [] (1 ∷ zeros 31) (zeros 31 ++ (5 ∷ []))); want = 9 ∷ 0 ∷ (zeros 31 ++ (5 ∷ [])) }  -- one of neither start: no byte changes
+    ∷ record { got = finds (convertChecks 1 4 32 16 0 160 159); want = 7 ∷ 0 ∷ [] }  -- output 159 for a parcel of 160
+    ∷ record { got = finds (convertChecks 1 4 32 16 0 160 160); want = 0 ∷ 0 ∷ [] }
+    ∷ record { got = answered (convertCall 1 4 (zeros 32) (zeros 16) [] (zeros 32) (nines 33)); want = 0 ∷ 32 ∷ (newOpp ++ (9 ∷ [])) }  -- P10's parcels converted, OPP and MRO
+    ∷ record { got = answered (convertCall 2 4 (zeros 32) (zeros 16) [] (zeros 32) (nines 33)); want = 0 ∷ 32 ∷ (newMro ++ (9 ∷ [])) }
+    ∷ record { got = answered (convertCall 2 4 (zeros 32) (zeros 16) [] newMro (nines 32)); want = 17 ∷ 0 ∷ nines 32 }  -- the new parcel is done already, and one of neither start: no byte changes
+    ∷ record { got = answered (convertCall 2 4 (zeros 32) (zeros 16) [] (1 ∷ zeros 31) (nines 32)); want = 9 ∷ 0 ∷ nines 32 }
     -- ---- card 6: the run
-    ∷ record { got = drop 16 (grown (word 0 1) 17); want = 0x0020000000000000 ∷ (zeros 15 ++ (0x0000040000000000 ∷ [])) }  -- words 16 to 32 of two runs: rotated, and
-    ∷ record { got = drop 16 (grown (word 5 1) 6); want = 0x2000 ∷ 0 ∷ 0 ∷ 0 ∷ 0 ∷ 0x0020000000000000 ∷ [] }  -- shifted
+    ∷ record { got = drop 16 (grown (word 0 1) 17); want = 0x0020000000000000 ∷ (zeros 15 ++ (0x0000040000000000 ∷ [])) }  -- words 16 to 32 of a run: rotated
+    ∷ record { got = drop 16 (grown (word 5 1) 6); want = 0x2000 ∷ 0 ∷ 0 ∷ 0 ∷ 0 ∷ 0x0020000000000000 ∷ [] }  -- words 16 to 21 of another: shifted
     ∷ record { got = runLength 4096 128 ∷ runLength 4095 65536 ∷ runLength 0 65535 ∷ []; want = 53 ∷ 533 ∷ 532 ∷ [] }
-    ∷ record { got = found (sealRunChecks 1 4 32 16 0 127 159 20); want = 7 ∷ 0 ∷ [] }  -- 20 words for no whole block, and 21
-    ∷ record { got = found (sealRunChecks 1 4 32 16 0 127 159 21); want = 0 ∷ 0 ∷ [] }
-    ∷ record { got = found (openRunChecks 2 12 32 16 4096 160 128 52); want = 7 ∷ 0 ∷ [] }  -- 52 words for a header of 32 blocks
-    ∷ record { got = sealRunCall 2 4 (zeros 32) (zeros 16) [] [] (zeros 33) (zeros 21) .1 .0; want = newMro ++ (0 ∷ []) }  -- the empty message sealed from a run, MRO with four rounds
+    ∷ record { got = finds (sealRunChecks 1 4 32 16 0 127 159 20); want = 7 ∷ 0 ∷ [] }  -- 20 words for no whole block, and 21
+    ∷ record { got = finds (sealRunChecks 1 4 32 16 0 127 159 21); want = 0 ∷ 0 ∷ [] }
+    ∷ record { got = finds (openRunChecks 2 12 32 16 4096 160 128 52); want = 7 ∷ 0 ∷ [] }  -- 52 words for a header of 32 blocks
+    ∷ record { got = sealRunCall 2 4 (zeros 32) (zeros 16) [] [] (nines 33) (zeros 21) .1 .0; want = newMro ++ (9 ∷ []) }  -- the empty message sealed from a run, MRO with four rounds
     ∷ record { got = drop 21 (sealRunCall 1 4 (zeros 32) (zeros 16) [] [] (zeros 32) (zeros 21 ++ (5 ∷ 6 ∷ [])) .1 .1); want = 5 ∷ 6 ∷ [] }  -- what lies behind the run
-    ∷ record { got = openedFromRun 1 newOppParcel; want = 0 ∷ 3 ∷ 0 ∷ 1 ∷ 2 ∷ 9 ∷ [] }  -- opened from a run: the answer and the output
-    ∷ record { got = openedFromRun 2 (set newMroParcel 34 0); want = 9 ∷ 0 ∷ 0 ∷ 0 ∷ 0 ∷ 9 ∷ [] }  -- refused with 9, where the tag's last byte differs
+    ∷ record { got = openedByRun 1 newOppParcel; want = 0 ∷ 3 ∷ 0 ∷ 1 ∷ 2 ∷ 9 ∷ [] }  -- opened from a run: the answer and the output
+    ∷ record { got = openedByRun 2 (set newMroParcel 34 0); want = 9 ∷ 0 ∷ 0 ∷ 0 ∷ 0 ∷ 9 ∷ [] }  -- refused with 9, where the tag's last byte differs
     ∷ []
 
 -- row i of the table
 unfoldable pub rowAt : ℕ → Row
 rowAt i = getD table i (record { got = []; want = [] })
 
--- each row of the table holds: what the definitions give is what the bench sheet has
+-- each row of the table holds: what the definitions give is what it must be
 pub record KnownAnswers : Type 0 where
   pub row : (i : ℕ) → i < length table → rowAt i .got ≡ rowAt i .want
   -- P10 and P11 with every count of rounds, over the section 4 start

@@ -99,39 +99,39 @@ const WITH_A_HEADER: [(u32, usize, usize, &str); 6] = [
     ),
     (
         OPP,
-        133,
+        261,
         131,
         "cc11f8e4ae8ba556df6e16\
-         03dd10a36f1ecb6d07dc7a96bf96e3844175f48f86c3a86e34c54e6cc7215348",
+         c7d1c11c021b6c30d9709247767ff845723ee1f34dce52d16e0bbeb88586bde3",
     ),
     (
         MRO,
-        133,
+        261,
         131,
-        "5938b0f8423632659799ed\
-         dc7cc6461cdbc715be6d530fd12fbf2b47118ae75989fc81d06c1b1c78ef656b",
+        "5f7cffe01b61f42e547a7e\
+         1d73b8e5c5b538e767e07793166042aa1ab9b6d0b9fa5e71ab6a645d481ea22a",
     ),
     (
         OPP,
-        256,
+        133,
         256,
         "8260dbb1fcb58386\
-         522f816596e3afb19c106392c80824356e95a7ca4cbe853241a7c05ddcbd974a",
+         94e51820b2a039b6e97feed5cfb2ab458a9b18b139ba2ce01c9b80a0d50145c4",
     ),
     (
         MRO,
+        133,
         256,
-        256,
-        "c244564634322d0e\
-         94fc0f8dacfe7f65aee1a1f262bb36b72d88abdde0b193ade516e3e2ac263557",
+        "1b500fbbea32e8a2\
+         dee9073d4ce214ac68bf993d5e3f56d9e5d5af04fb892ea1c94bfc5ad16aec50",
     ),
 ];
 
-/// A header's bytes count down from 255, a message's up from 0.
+/// A header's bytes count down from 255, over and over 251 of them, a message's up from 0.
 #[test]
 fn parcels_with_a_header_as_in_that_table() {
     let up: [u8; 256] = std::array::from_fn(|i| i as u8);
-    let down = up.map(|byte| 255 - byte);
+    let down: [u8; 261] = std::array::from_fn(|i| 255 - (i % 251) as u8);
     for (mode, header, message, end) in WITH_A_HEADER {
         let (header, message) = (&down[..header], &up[..message]);
         let parcel = sealed_in_hex(Start::New, mode, 4, &up[..16], header, message);
