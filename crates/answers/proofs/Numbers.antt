@@ -7,7 +7,7 @@ use lib.Arith.{digits-div, digits-mod}
 use lib.Dec.{eqb, lit<}
 use Rattle.answers.specs.Answers.{groundNumber, numberOf, valueOf, codeOf, judged, shown, totalled}
 use Rattle.answers.specs.declared.Ground.{Ground}
-use Rattle.answers.specs.declared.Ground.the-variants.{ModeNumber, Rounds, KeyLength, NonceLength, HeaderLength, InputLength, OutputLength, TagMissing, TagDiffers, StartLength, NetCount, StepByte, ListLength, StoreForm, StoreFull, SaleNumbers, DoneAlready}
+use Rattle.answers.specs.declared.Ground.the-variants.{ModeNumber, Rounds, KeyLength, NonceLength, HeaderLength, InputLength, OutputLength, TagMissing, TagDiffers, StartLength, NetCount, StepByte, ListLength, StoreFull, SaleNumbers, DoneAlready, StoreLength, StoreIndex, StoreKind}
 use Rattle.answers.specs.declared.Check.{Check}
 use Rattle.answers.specs.declared.Check.the-variants.{Clear, Fails}
 use Rattle.answers.specs.declared.Answer.{Answer}
@@ -24,7 +24,7 @@ taken-apart a h = (digits-div (numberOf a) h, digits-mod (numberOf a) h)
 -- all grounds
 abbrev grounds : List Ground
 grounds =
-    ModeNumber ∷ Rounds ∷ KeyLength ∷ NonceLength ∷ HeaderLength ∷ InputLength ∷ OutputLength ∷ TagMissing ∷ TagDiffers ∷ StartLength ∷ NetCount ∷ StepByte ∷ ListLength ∷ StoreForm ∷ StoreFull ∷ SaleNumbers ∷ DoneAlready ∷ []
+    ModeNumber ∷ Rounds ∷ KeyLength ∷ NonceLength ∷ HeaderLength ∷ InputLength ∷ OutputLength ∷ TagMissing ∷ TagDiffers ∷ StartLength ∷ NetCount ∷ StepByte ∷ ListLength ∷ StoreFull ∷ SaleNumbers ∷ DoneAlready ∷ StoreLength ∷ StoreIndex ∷ StoreKind ∷ []
 
 -- the first of them with that number
 abbrev groundOf : List Ground → ℕ → Ground
@@ -51,10 +51,12 @@ answer-back (Refused StartLength place) = refl
 answer-back (Refused NetCount place) = refl
 answer-back (Refused StepByte place) = refl
 answer-back (Refused ListLength place) = refl
-answer-back (Refused StoreForm place) = refl
 answer-back (Refused StoreFull place) = refl
 answer-back (Refused SaleNumbers place) = refl
 answer-back (Refused DoneAlready place) = refl
+answer-back (Refused StoreLength place) = refl
+answer-back (Refused StoreIndex place) = refl
+answer-back (Refused StoreKind place) = refl
 
 pub told-apart : (a b : Answer) → valueOf a < 2 ^ 32 → valueOf b < 2 ^ 32 → codeOf a ≡ codeOf b → a ≡ b
 told-apart a b h k e =

@@ -3,7 +3,7 @@ use mathlib.Core.Bool.{Bool, true, false}
 use Prim.Native.Nat.{ℕ, _+_, _*_, _^_}
 use lib.Dec.{ltb}
 use Rattle.answers.specs.declared.Ground.{Ground}
-use Rattle.answers.specs.declared.Ground.the-variants.{ModeNumber, Rounds, KeyLength, NonceLength, HeaderLength, InputLength, OutputLength, TagMissing, TagDiffers, StartLength, NetCount, StepByte, ListLength, StoreForm, StoreFull, SaleNumbers, DoneAlready}
+use Rattle.answers.specs.declared.Ground.the-variants.{ModeNumber, Rounds, KeyLength, NonceLength, HeaderLength, InputLength, OutputLength, TagMissing, TagDiffers, StartLength, NetCount, StepByte, ListLength, StoreFull, SaleNumbers, DoneAlready, StoreLength, StoreIndex, StoreKind}
 use Rattle.answers.specs.declared.Check.{Check}
 use Rattle.answers.specs.declared.Check.the-variants.{Clear, Fails}
 use Rattle.answers.specs.declared.Answer.{Answer}
@@ -11,7 +11,7 @@ use Rattle.answers.specs.declared.Answer.the-variants.{Done, Refused}
 
 -- ---- answers
 
--- the number of each ground in the table
+-- the number of each ground in the table; 14 is withdrawn (document 02, card 7) and is no ground's
 abbrev pub groundNumber : Ground → ℕ
 groundNumber ModeNumber = 1
 groundNumber Rounds = 2
@@ -26,10 +26,12 @@ groundNumber StartLength = 10
 groundNumber NetCount = 11
 groundNumber StepByte = 12
 groundNumber ListLength = 13
-groundNumber StoreForm = 14
 groundNumber StoreFull = 15
 groundNumber SaleNumbers = 16
 groundNumber DoneAlready = 17
+groundNumber StoreLength = 18
+groundNumber StoreIndex = 19
+groundNumber StoreKind = 20
 
 -- a refusal returns its number; 0 is success
 abbrev pub numberOf : Answer → ℕ

@@ -32,14 +32,18 @@ pub enum Ground {
     StepByte,
     // The list has over 4,096 steps.
     ListLength,
-    // The store's length, an index, a kind or the chains are not as said.
-    StoreForm,
     // The store has no free cell.
     StoreFull,
     // Machine and sale number are present where they must not be, or absent.
     SaleNumbers,
     // The parcel opens under the new start and not under the old one.
     DoneAlready,
+    // The store's length is not as said.
+    StoreLength,
+    // An index of the store is past the last cell, or of a cell reached before.
+    StoreIndex,
+    // A cell's kind does not fit its chain, or it is in neither chain.
+    StoreKind,
 }
 
 // What a call's checks find: nothing, or the first ground that holds and its place.
@@ -72,10 +76,12 @@ fn ground_number(g: Ground) -> u32
         Ground::NetCount => 11,
         Ground::StepByte => 12,
         Ground::ListLength => 13,
-        Ground::StoreForm => 14,
         Ground::StoreFull => 15,
         Ground::SaleNumbers => 16,
         Ground::DoneAlready => 17,
+        Ground::StoreLength => 18,
+        Ground::StoreIndex => 19,
+        Ground::StoreKind => 20,
     }
 }
 

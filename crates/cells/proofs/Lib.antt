@@ -1,6 +1,12 @@
 pub mod Numbers
+mod Fronts
 pub mod Chains
+pub mod Counts
+pub mod Pigeons
 pub mod Form
+pub mod Walks
+pub mod Faults
+pub mod FirstFault
 pub mod Along
 pub mod Cells
 pub mod Puts

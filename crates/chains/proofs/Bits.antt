@@ -7,12 +7,12 @@ use native.Mathlib.Nat.{pow-succ', div-div-eq-div-mul, mod-eq-of-lt, one-mul}
 use native.Mathlib.Omega.{arith}
 use native.Mathlib.Decide.{ℕ-discrete}
 use lib.Dec.{eqb, eqb·zero-suc, eqb·suc-zero, eqb·suc-suc}
-use lib.ListN.{length, getD}
+use lib.ListN.{length, getD, length-set}
 use lib.Seq.{getD-set-same, getD-set-other}
 use borrow.Author.Tests.{eq-eqb, ne-eqb, eqb-true, eqb-false, not-true, not-false}
 use Rattle.words.proofs.Truth.{allBelow, carried}
-use Rattle.chains.specs.Marks.{bitAt, marked, isMarked, unmarked, Marks}
-use Rattle.chains.proofs.Counts.{count-last}
+use Rattle.chains.specs.Marks.{bitAt, marked, isMarked, unmarked, bits, Marks, Unmet}
+use Rattle.cells.proofs.Counts.{count-last}
 
 halved : (x k : ℕ) → x / 2 ^ suc k ≡ x / 2 / 2 ^ k
 halved x k = rw pow-succ' (sym (div-div-eq-div-mul x 2 (2 ^ k)))
@@ -39,8 +39,8 @@ bit-fits (suc k) (suc j) x l b h =
     omega arith
 
 -- as the code has it
-pub powered : (j : ℕ) → j < 8 → 1 * 2 ^ j % 256 ≡ 2 ^ j
-powered j h = let l : 2 ^ j < 256 = omega (arith, bit-fits 8 j 0 h (omega arith) (zeroed j)) in rw one-mul (mod-eq-of-lt l) where
+pub powered : (j : ℕ) → j < 64 → 1 * 2 ^ j % 18446744073709551616 ≡ 2 ^ j
+powered j h = let l : 2 ^ j < 18446744073709551616 = omega (arith, bit-fits 64 j 0 h (omega arith) (zeroed j)) in rw one-mul (mod-eq-of-lt l) where
   zeroed : (i : ℕ) → 0 / 2 ^ i % 2 ≡ 0
   zeroed zero = omega arith
   zeroed (suc i) = rw halved (zeroed i)
@@ -49,19 +49,19 @@ same-test : (a b : ℕ) → eqb a b ≡ eqb b a
 same-test a b = elim (ℕ-discrete a b) [ yes e ↦ rw e | no n ↦ ne-eqb a b n ∙ sym (ne-eqb b a (λ e. n (sym e))) ]
 
 -- one more mark
-pub bit-marked : (m : List ℕ) (c k : ℕ) → c < 8 * length m → bitAt m c ≡ 0 → bitAt (marked m c) k ≡ bitAt m k + cond (eqb k c) 1 0
+pub bit-marked : (m : List ℕ) (c k : ℕ) → c < 64 * length m → bitAt m c ≡ 0 → bitAt (marked m c) k ≡ bitAt m k + cond (eqb k c) 1 0
 unfolding bitAt marked
-bit-marked m c k l h = elim (ℕ-discrete (k / 8) (c / 8)) [
-  | yes p ↦ rw (p, getD-set-same m (c / 8) (getD m (c / 8) 0 + 2 ^ (c % 8)) 0 (omega arith), bit-more (k % 8) (c % 8) (getD m (c / 8) 0) h) (ap (λ (t : ℕ). getD m (c / 8) 0 / 2 ^ (k % 8) % 2 + t) (same p))
-  | no q ↦ rw (getD-set-other m (c / 8) (k / 8) (getD m (c / 8) 0 + 2 ^ (c % 8)) 0 q, ne-eqb k c (λ e. q (ap (λ (t : ℕ). t / 8) e))) (omega arith)
+bit-marked m c k l h = elim (ℕ-discrete (k / 64) (c / 64)) [
+  | yes p ↦ rw (p, getD-set-same m (c / 64) (getD m (c / 64) 0 + 2 ^ (c % 64)) 0 (omega arith), bit-more (k % 64) (c % 64) (getD m (c / 64) 0) h) (ap (λ (t : ℕ). getD m (c / 64) 0 / 2 ^ (k % 64) % 2 + t) (same p))
+  | no q ↦ rw (getD-set-other m (c / 64) (k / 64) (getD m (c / 64) 0 + 2 ^ (c % 64)) 0 q, ne-eqb k c (λ e. q (ap (λ (t : ℕ). t / 64) e))) (omega arith)
 ] where
-  same : k / 8 ≡ c / 8 → _≡_ {A = ℕ} (cond (eqb (k % 8) (c % 8)) 1 0) (cond (eqb k c) 1 0)
+  same : k / 64 ≡ c / 64 → _≡_ {A = ℕ} (cond (eqb (k % 64) (c % 64)) 1 0) (cond (eqb k c) 1 0)
   same p = elim (ℕ-discrete k c) [
-    | yes e ↦ rw (eq-eqb k c e, eq-eqb (k % 8) (c % 8) (ap (λ (t : ℕ). t % 8) e))
-    | no n ↦ rw (ne-eqb k c n, ne-eqb (k % 8) (c % 8) (λ e. n (omega arith)))
+    | yes e ↦ rw (eq-eqb k c e, eq-eqb (k % 64) (c % 64) (ap (λ (t : ℕ). t % 64) e))
+    | no n ↦ rw (ne-eqb k c n, ne-eqb (k % 64) (c % 64) (λ e. n (omega arith)))
   ]
 
-pub marks-more : (m met : List ℕ) (c : ℕ) → c < 8 * length m → bitAt m c ≡ 0 → Marks m met → Marks (marked m c) (met ++ (c ∷ []))
+pub marks-more : (m met : List ℕ) (c : ℕ) → c < 64 * length m → bitAt m c ≡ 0 → Marks m met → Marks (marked m c) (met ++ (c ∷ []))
 marks-more m met c l h g = record { each = λ k. bit-marked m c k l h ∙ rw (g .each k, same-test k c) (sym (count-last k met c)) }
 
 -- a mark as the code tests it
@@ -73,28 +73,82 @@ pub bit-some : (m : List ℕ) (c : ℕ) → isMarked m c ≡ true → bitAt m c 
 unfolding isMarked
 bit-some m c e = eqb-false (bitAt m c) 0 (not-true _ e)
 
--- ---- bytes of marks
+-- ---- words of marks
 
--- each bit of 255 is 1, and of 254 each but the first
-ones : (k : ℕ) → k < 8 → 255 / 2 ^ k % 2 ≡ 1
-ones k h = eqb-true _ 1 (carried (λ k. eqb (255 / 2 ^ k % 2) 1) 8 (unfold allBelow in refl) k h)
+-- each bit of the full word is 1, and of the one below each but the first
+ones : (k : ℕ) → k < 64 → 18446744073709551615 / 2 ^ k % 2 ≡ 1
+ones k h = eqb-true _ 1 (carried (λ k. eqb (18446744073709551615 / 2 ^ k % 2) 1) 64 (unfold allBelow in refl) k h)
 
-ones-but-first : (k : ℕ) → k < 7 → 254 / 2 ^ suc k % 2 ≡ 1
-ones-but-first k h = eqb-true _ 1 (carried (λ k. eqb (254 / 2 ^ suc k % 2) 1) 7 (unfold allBelow in refl) k h)
+ones-but-first : (k : ℕ) → k < 63 → 18446744073709551614 / 2 ^ suc k % 2 ≡ 1
+ones-but-first k h = eqb-true _ 1 (carried (λ k. eqb (18446744073709551614 / 2 ^ suc k % 2) 1) 63 (unfold allBelow in refl) k h)
 
-bit-marks : (m : List ℕ) (i : ℕ) → bitAt m i ≡ 1 → unmarked m i ≡ false
+pub bit-marks : (m : List ℕ) (i : ℕ) → bitAt m i ≡ 1 → unmarked m i ≡ false
 unfolding unmarked isMarked
 bit-marks m i e = rw e
 
-pub full-byte : (m : List ℕ) (j i : ℕ) → getD m j 0 ≡ 255 → 8 * j ≤ i → i < 8 * j + 8 → unmarked m i ≡ false
+pub full-word : (m : List ℕ) (j i : ℕ) → getD m j 0 ≡ 18446744073709551615 → 64 * j ≤ i → i < 64 * j + 64 → unmarked m i ≡ false
 unfolding bitAt
-full-byte m j i e a b =
-    let q : i / 8 ≡ j = omega arith in
-    bit-marks m i (rw (q, e) (ones (i % 8) (omega arith)))
+full-word m j i e a b =
+    let q : i / 64 ≡ j = omega arith in
+    bit-marks m i (rw (q, e) (ones (i % 64) (omega arith)))
 
-pub first-byte : (m : List ℕ) (i : ℕ) → getD m 0 0 ≡ 254 → 1 ≤ i → i < 8 → unmarked m i ≡ false
+pub first-word : (m : List ℕ) (i : ℕ) → getD m 0 0 ≡ 18446744073709551614 → 1 ≤ i → i < 64 → unmarked m i ≡ false
 unfolding bitAt
-first-byte m i e a b =
-    let q : i / 8 ≡ 0 = omega arith in
-    let r : i % 8 ≡ suc (i - 1) = omega arith in
+first-word m i e a b =
+    let q : i / 64 ≡ 0 = omega arith in
+    let r : i % 64 ≡ suc (i - 1) = omega arith in
     bit-marks m i (rw (q, e, r) (ones-but-first (i - 1) (omega arith)))
+
+-- ---- how many
+
+bit-most : (m : List ℕ) (k : ℕ) → bitAt m k ≤ 1
+unfolding bitAt
+bit-most m k = omega arith
+
+bits-most : (m : List ℕ) (n : ℕ) → bits m n ≤ n
+unfolding bits
+bits-most m zero = omega arith
+bits-most m (suc n) = omega (arith, bits-most m n, bit-most m n)
+
+pub bits-none : (m : List ℕ) (n : ℕ) → ((k : ℕ) → bitAt m k ≡ 0) → bits m n ≡ 0
+unfolding bits
+bits-none m zero h = refl
+bits-none m (suc n) h = rw (bits-none m n h, h n)
+
+-- no change below c
+bits-past : (m : List ℕ) (c n : ℕ) → c < 64 * length m → bitAt m c ≡ 0 → n ≤ c → bits (marked m c) n ≡ bits m n
+unfolding bits
+bits-past m c zero l h k = refl
+bits-past m c (suc n) l h k = rw (bits-past m c n l h (omega arith), bit-marked m c n l h, ne-eqb n c (λ e. omega arith)) (omega arith)
+
+pub bits-marked : (m : List ℕ) (c n : ℕ) → c < 64 * length m → bitAt m c ≡ 0 → c < n → bits (marked m c) n ≡ bits m n + 1
+unfolding bits
+bits-marked m c zero l h k = absurd (omega arith)
+bits-marked m c (suc n) l h k = elim (ℕ-discrete n c) [
+  | yes e ↦ rw (e, bits-past m c c l h (omega arith), bit-marked m c c l h, eq-eqb c c refl) (omega arith)
+  | no q ↦ rw (bits-marked m c n l h (omega (arith, q)), bit-marked m c n l h, ne-eqb n c q) (omega arith)
+]
+
+pub length-marked : (m : List ℕ) (c : ℕ) → length (marked m c) ≡ length m
+unfolding marked
+length-marked m c = length-set m (c / 64) _
+
+-- a cell that is not marked, beside cell 0, has room
+pub unmet-one : (m : List ℕ) (c n left : ℕ) → n ≤ 64 * length m → Unmet n m left → (c ≡ 0 → ⊥) → c < n → bitAt m c ≡ 0 → 1 ≤ left
+unmet-one m c n left l r z k h =
+    let e = bits-marked m c n (omega arith) h k in
+    let f = bits-marked (marked m c) 0 n (omega (arith, length-marked m c)) (bit-marked m c 0 (omega arith) h ∙ rw (ne-eqb 0 c (λ e. z (sym e)), r .head)) (omega arith) in
+    omega (arith, bits-most (marked (marked m c) 0) n, r .many)
+
+pub unmet-less : (m k : List ℕ) (c n left : ℕ) → n ≤ 64 * length m → Unmet n m left → (c ≡ 0 → ⊥) → c < n → bitAt m c ≡ 0 → k ≡ marked m c → Unmet n k (left - 1)
+unmet-less m k c n left l r z a h e =
+    let p = unmet-one m c n left l r z a h in
+    let f = bits-marked m c n (omega arith) h a in
+    rw e (record { head = bit-marked m c 0 (omega arith) h ∙ rw (ne-eqb 0 c (λ e. z (sym e)), r .head); many = omega (arith, r .many) })
+
+-- where there is no room, each cell but 0 is marked
+pub unmet-none : (m : List ℕ) (n : ℕ) → n ≤ 64 * length m → Unmet n m 0 → (c : ℕ) → 1 ≤ c → c < n → unmarked m c ≡ false
+unmet-none m n l r c a b = elim (ℕ-discrete (bitAt m c) 0) [
+  | yes h ↦ absurd (omega (arith, unmet-one m c n 0 l r (λ e. omega arith) b h))
+  | no q ↦ bit-marks m c (omega (arith, q, bit-most m c))
+]

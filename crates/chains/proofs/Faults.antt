@@ -1,52 +1,110 @@
 -- The calls of the check, put together. Assumes nothing.
-use mathlib.Core.Path.{_≡_, sym, ap, _∙_}
-use mathlib.Core.Bool.{_||_}
+use mathlib.Core.Path.{_≡_, refl, sym, ap, _∙_}
+use mathlib.Core.Bool.{Bool, true, false, not, _&&_, _||_}
 use mathlib.Core.List.{List, []}
-use Prim.Native.Nat.{ℕ, _-_, _/_, _%_, _^_}
+use Prim.Native.Nat.{ℕ, _-_, _*_, _/_, _%_, _^_, _≤_, _<_}
 use native.Mathlib.Nat.{zero-div}
 use native.Mathlib.Omega.{arith}
-use native.Mathlib.Decide.{decLt}
-use lib.ListN.{getD, replicate, length-replicate, getD-replicate, List·getD-eq-default}
-use Rattle.chains.specs.declared.Stop.{Stop}
-use Rattle.chains.specs.declared.Stop.the-variants.{End, Broken}
-use Rattle.chains.specs.declared.Fault.the-variants.{Index}
+use native.Mathlib.Decide.{decLt, ℕ-discrete}
+use lib.Dec.{eqb}
+use lib.ListN.{length, getD, replicate, length-replicate, getD-replicate, List·getD-eq-default}
+use Rattle.chains.specs.declared.Traversal.{Traversal}
+use Rattle.cells.specs.declared.Stop.the-variants.{End, Broken}
+use Rattle.cells.specs.declared.Fault.the-variants.{Index}
 use Rattle.cells.specs.Numbers.{numberAt}
-use Rattle.cells.specs.Chains.{count}
-use Rattle.cells.specs.Cells.{cells, firstSale, firstFree}
-use Rattle.chains.specs.Faults.{walkOf, salesWalk, freeWalk, isIn, unfit, firstFrom, brokenOr, kindFault, formFault}
-use Rattle.chains.specs.Marks.{Marks, Walked, bitAt, isMarked, misfit, unmarked}
-use Rattle.chains.proofs.Counts.{first-ext, first-or}
+use Rattle.cells.specs.Chains.{count, isIn, firstFrom}
+use Rattle.cells.specs.Cells.{cells, firstSale, firstFree, kindOf, kindFits}
+use Rattle.cells.specs.Faults.{walkOf, salesWalk, freeWalk, unfit, brokenOr, kindFault, formFault}
+use Rattle.chains.specs.Marks.{Marks, Unmet, FirstMisfit, Walked, bitAt, isMarked, unmarked}
+use Rattle.cells.proofs.Counts.{all-first, first-ext, first-or, first-is, in-yes, in-no}
+use Rattle.chains.proofs.Bits.{bits-none, unmet-none}
 
-abbrev pub Walks : List ℕ → List ℕ → ℕ → Stop → List ℕ → Type 0
-Walks s m i r n = (met : List ℕ) → Marks m met → Walked r n (walkOf s (cells s) met 0 i)
+-- what a walk promises
+abbrev pub Walks : List ℕ → List ℕ → ℕ → ℕ → ℕ → Traversal → List ℕ → Type 0
+Walks s m i kind k r n = (fits : ℕ → Bool) (met : List ℕ) → Marks m met → FirstMisfit fits met (cells s) k → ((c : ℕ) → count c met ≡ 0 → fits c ≡ eqb (kindOf s c) kind) → Walked fits (cells s) r n (walkOf s (cells s) met 0 i)
 
-pub sales-walked : (s m n : List ℕ) (i : ℕ) (r : Stop) → i ≡ numberAt 2 0 s → Walks s m i r n → Marks m [] → Walked r n (salesWalk s)
-unfolding salesWalk firstSale
-sales-walked s m n i r e w h = rw e at (w [] h)
+-- the tests of the kinds: of the sales, and of all once the sales are known
+abbrev pub soldFits : List ℕ → ℕ → Bool
+soldFits s c = eqb (kindOf s c) 1
 
-pub free-walked : (s m n : List ℕ) (i : ℕ) (q r : Stop) → i ≡ numberAt 2 2 s → Walks s m i r n → Walked q m (salesWalk s) → Walked r n (freeWalk s)
-unfolding freeWalk firstFree
-free-walked s m n i q r e w h = rw e at (w (salesWalk s .1) (h .marks))
+abbrev pub eachFits : List ℕ → ℕ → Bool
+eachFits s c = kindFits (isIn c (salesWalk s .1)) (kindOf s c)
 
-pub broken-sales : (s m : List ℕ) (r : Stop) (c : ℕ) → Walked r m (salesWalk s) → r ≡ Broken c → Index c ≡ formFault s
+pub sales-walked : (s m n : List ℕ) (i : ℕ) (r : Traversal) → i ≡ numberAt 2 0 s → Walks s m i 1 (cells s) r n → Marks m [] → Walked (soldFits s) (cells s) r n (salesWalk s)
+unfolding salesWalk firstSale count
+sales-walked s m n i r e w h = rw e at (w (soldFits s) [] h (record { most = omega arith; least = λ c a b. absurd (omega arith); found = λ a. absurd (omega arith) }) (λ c a. refl))
+
+-- the sales' test is that of all on the sales
+misfit-all : (s : List ℕ) (n k : ℕ) → FirstMisfit (soldFits s) (salesWalk s .1) n k → FirstMisfit (eachFits s) (salesWalk s .1) n k
+unfolding kindFits
+misfit-all s n k g = record {
+  most = g .most;
+  least = λ c a b. rw (in-yes c (salesWalk s .1) b) (g .least c a b);
+  found = λ a. (g .found a .0, rw (in-yes k (salesWalk s .1) (g .found a .0)) (g .found a .1));
+}
+
+pub free-walked : (s m n : List ℕ) (i : ℕ) (q r : Traversal) → i ≡ numberAt 2 2 s → Walks s m i 0 (q .kept) r n → Walked (soldFits s) (cells s) q m (salesWalk s) → Walked (eachFits s) (cells s) r n (freeWalk s)
+unfolding freeWalk firstFree kindFits
+free-walked s m n i q r e w h = rw e at (w (eachFits s) (salesWalk s .1) (h .marks) (misfit-all s (cells s) (q .kept) (h .kept)) (λ c a. rw (in-no c (salesWalk s .1) a)))
+
+pub broken-sales : (s m : List ℕ) (r : Traversal) (c : ℕ) → Walked (soldFits s) (cells s) r m (salesWalk s) → r .stop ≡ Broken c → Index c ≡ formFault s
 unfolding formFault brokenOr
 broken-sales s m r c w e = rw (sym (w .stop) ∙ e)
 
-module _ (s m n : List ℕ) (q r : Stop) (v : Walked q m (salesWalk s)) (d : q ≡ End) (w : Walked r n (freeWalk s)) where
-  pub broken-free : (c : ℕ) → r ≡ Broken c → Index c ≡ formFault s
+-- a cell that was met and does not fit
+bad : List ℕ → List ℕ → ℕ → Bool
+bad s met c = isIn c met && not (eachFits s c)
+
+module _ (s m n : List ℕ) (q r : Traversal) (v : Walked (soldFits s) (cells s) q m (salesWalk s)) (d : q .stop ≡ End) (w : Walked (eachFits s) (cells s) r n (freeWalk s)) where
+  pub broken-free : (c : ℕ) → r .stop ≡ Broken c → Index c ≡ formFault s
   unfolding formFault brokenOr
   broken-free c e = rw (sym (v .stop) ∙ d, sym (w .stop) ∙ e)
 
-  pub last-check : (f at : ℕ) → r ≡ End → f ≡ firstFrom (misfit s m) 1 (cells s - 1) → at ≡ firstFrom (unmarked n) 1 (f - 1) → kindFault (cells s) at ≡ formFault s
-  unfolding formFault brokenOr misfit unmarked isMarked unfit isIn
-  last-check f at e a b =
-      rw (sym (v .stop) ∙ d, sym (w .stop) ∙ e, b, a, first-or (misfit s m) (unmarked n) 1 (cells s - 1))
-      (ap (kindFault (cells s)) (first-ext (λ c. misfit s m c || unmarked n c) (unfit s (salesWalk s .1) (freeWalk s .1)) 1 (cells s - 1)
-      (λ c. rw (v .marks .each c, w .marks .each c))))
+  pub misfit-low : bitAt n 0 ≡ 0 → 1 ≤ cells s → 1 ≤ r .kept
+  misfit-low h a = elim (ℕ-discrete (r .kept) 0) [
+    | yes z ↦
+        let f : 0 < count (r .kept) (freeWalk s .1) = w .kept .found (omega arith) .0 in
+        absurd (let g : 0 < count 0 (freeWalk s .1) = rw z at f in omega (arith, w .marks .each 0))
+    | no z ↦ omega (arith, z)
+  ]
+
+  misfit-first : 1 ≤ r .kept → firstFrom (bad s (freeWalk s .1)) 1 (cells s - 1) ≡ r .kept
+  unfolding bad
+  misfit-first a = first-is (bad s (freeWalk s .1)) (r .kept) (cells s) a (w .kept .most) (λ i b l. before i l) (λ l. rw (in-yes (r .kept) (freeWalk s .1) (w .kept .found l .0), w .kept .found l .1)) where
+    before : (i : ℕ) → i < r .kept → (isIn i (freeWalk s .1) && not (eachFits s i)) ≡ false
+    before i l = elim (ℕ-discrete (count i (freeWalk s .1)) 0) [
+      | yes z ↦ rw (in-no i (freeWalk s .1) z)
+      | no z ↦ rw (in-yes i (freeWalk s .1) (omega (arith, z)), w .kept .least i l (omega (arith, z)))
+    ]
+
+  same-unfit : (i f : Bool) → (i && not f || not i) ≡ (not f || not i)
+  same-unfit true true = refl
+  same-unfit true false = refl
+  same-unfit false true = refl
+  same-unfit false false = refl
+
+  unfit-is : (c : ℕ) → (bad s (freeWalk s .1) c || unmarked n c) ≡ unfit s (salesWalk s .1) (freeWalk s .1) c
+  unfolding bad unmarked isMarked unfit isIn
+  unfit-is c = rw (w .marks .each c) (same-unfit (isIn c (freeWalk s .1)) (eachFits s c))
+
+  pub last-check : (at : ℕ) → r .stop ≡ End → 1 ≤ r .kept → at ≡ firstFrom (unmarked n) 1 (r .kept - 1) → kindFault (cells s) at ≡ formFault s
+  unfolding formFault brokenOr
+  last-check at e a b =
+      rw (sym (v .stop) ∙ d, sym (w .stop) ∙ e)
+      (ap (kindFault (cells s)) (b ∙ ap (λ (k : ℕ). firstFrom (unmarked n) 1 (k - 1)) (sym (misfit-first a)) ∙ first-or (bad s (freeWalk s .1)) (unmarked n) 1 (cells s - 1)
+      ∙ first-ext (λ c. bad s (freeWalk s .1) c || unmarked n c) (unfit s (salesWalk s .1) (freeWalk s .1)) 1 (cells s - 1) unfit-is))
+
+-- where there is no room, none is unmarked
+pub first-all-marked : (m : List ℕ) (n e : ℕ) → e ≤ n → n ≤ 64 * length m → 1 ≤ e → Unmet n m 0 → firstFrom (unmarked m) 1 (e - 1) ≡ e
+first-all-marked m n e a l b r = all-first (unmarked m) 1 (e - 1) (λ i c d. unmet-none m n l r i c (omega arith)) ∙ omega arith
+
+pub none-met : (n : ℕ) (m : List ℕ) → 1 ≤ n → Marks m [] → Unmet n m (n - 1)
+unfolding count
+none-met n m a h = record { head = h .each 0; many = omega (arith, bits-none m n (λ k. h .each k)) }
 
 pub no-marks : (n : ℕ) → Marks (replicate n 0) []
 unfolding bitAt count
-no-marks n = record { each = λ k. rw (zeroed (k / 8)) (none (k % 8)) } where
+no-marks n = record { each = λ k. rw (zeroed (k / 64)) (none (k % 64)) } where
   zeroed : (i : ℕ) → _≡_ {A = ℕ} (getD (replicate n 0) i 0) 0
   zeroed i = elim (decLt i n) [ yes p ↦ getD-replicate n i 0 0 p | no q ↦ List·getD-eq-default (replicate n 0) 0 {n = i} (simp length-replicate (omega arith)) ]
 

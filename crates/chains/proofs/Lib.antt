@@ -1,8 +1,5 @@
-mod Counts
-mod Pigeons
 mod Bits
-mod Table
 mod Walks
 mod Faults
-mod Forms
+mod Sounds
 mod Seeks

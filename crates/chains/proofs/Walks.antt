@@ -1,56 +1,93 @@
--- One step of a walk. Assumes nothing.
-use mathlib.Core.Path.{_≡_, sym, ap, subst, _∙_}
+-- How far a walk came, by its marks: it stops, or goes on. Assumes nothing.
+use mathlib.Core.Path.{_≡_, refl, sym, ap, _∙_}
+use mathlib.Core.Bool.{Bool, true, false, cond, not}
 use mathlib.Core.List.{List, [], _∷_, _++_}
-use Prim.Native.Nat.{ℕ, zero, suc, _-_, _*_, _≤_, _<_}
+use Prim.Native.Nat.{ℕ, zero, suc, _+_, _-_, _*_, _≤_, _<_}
 use native.Mathlib.Omega.{arith}
-use borrow.Author.Tests.{eq-eqb, ne-eqb, le-leb, lt-leb}
-use Rattle.chains.specs.declared.Stop.{Stop}
-use Rattle.chains.specs.declared.Stop.the-variants.{End, Broken}
+use native.Mathlib.Decide.{decLt, ℕ-discrete}
+use lib.Dec.{eqb, ltb}
+use borrow.Author.Tests.{eq-eqb, ne-eqb, le-leb, lt-leb, lt-ltb, le-ltb}
+use Rattle.cells.specs.declared.Stop.{Stop}
+use Rattle.cells.specs.declared.Stop.the-variants.{End, Broken}
+use Rattle.chains.specs.declared.Traversal.{Traversal}
 use Rattle.cells.specs.Chains.{count}
-use Rattle.cells.specs.Cells.{cells, nextOf}
-use Rattle.chains.specs.Faults.{walkOf}
-use Rattle.chains.specs.Marks.{Marks, Walked, bitAt, marked}
+use Rattle.cells.specs.Cells.{cells, nextOf, kindOf}
+use Rattle.cells.specs.Faults.{walkOf}
+use Rattle.chains.specs.Marks.{Marks, FirstMisfit, Walked, bitAt, marked}
 use lib.ListN.{length}
+use Rattle.cells.proofs.Counts.{count-last}
+use Rattle.cells.proofs.Walks.{walk-on}
 use Rattle.chains.proofs.Bits.{marks-more}
 
-pub walk-end : (s : List ℕ) (n : ℕ) (met : List ℕ) (from at : ℕ) → at ≡ 0 → walkOf s n met from at ≡ (End, met)
-unfolding walkOf
-walk-end s zero met from at e = rw (eq-eqb at 0 e)
-walk-end s (suc n) met from at e = rw (eq-eqb at 0 e)
-
-pub walk-out : (s : List ℕ) (n : ℕ) (met : List ℕ) (from at : ℕ) → (at ≡ 0 → ⊥) → n ≡ 0 → walkOf s n met from at ≡ (Broken from, met)
-unfolding walkOf
-walk-out s n met from at z e = rw (e, ne-eqb at 0 z)
-
-pub walk-past : (s : List ℕ) (n : ℕ) (met : List ℕ) (from at : ℕ) → (at ≡ 0 → ⊥) → cells s ≤ at → walkOf s n met from at ≡ (Broken from, met)
-unfolding walkOf
-walk-past s zero met from at z h = rw (ne-eqb at 0 z)
-walk-past s (suc n) met from at z h = rw (ne-eqb at 0 z, le-leb (cells s) at h)
-
-pub walk-twice : (s : List ℕ) (n : ℕ) (met : List ℕ) (from at : ℕ) → (at ≡ 0 → ⊥) → at < cells s → (count at met ≡ 0 → ⊥) → walkOf s n met from at ≡ (Broken from, met)
-unfolding walkOf
-walk-twice s zero met from at z l h = rw (ne-eqb at 0 z)
-walk-twice s (suc n) met from at z l h = rw (ne-eqb at 0 z, lt-leb (cells s) at l, ne-eqb (count at met) 0 h)
-
-pub walk-on : (s : List ℕ) (n : ℕ) (met : List ℕ) (from at : ℕ) → (at ≡ 0 → ⊥) → at < cells s → count at met ≡ 0 → walkOf s (suc n) met from at ≡ walkOf s n (met ++ (at ∷ [])) at (nextOf s at)
-unfolding walkOf
-walk-on s n met from at z l h = rw (ne-eqb at 0 z, lt-leb (cells s) at l, eq-eqb (count at met) 0 h)
-
--- the walk from w's start stands here, with these cells met and marked
-pub record On (s m : List ℕ) (left from at : ℕ) (w : Stop × List ℕ) : Type 0 where
+-- the walk from w's start stands here, with these cells met and marked, and steps enough for the cells left
+pub record On (fits : ℕ → Bool) (s m : List ℕ) (kind left kept from at : ℕ) (w : Stop × List ℕ) : Type 0 where
   pub met : List ℕ
+  pub steps : ℕ
+  pub enough : left ≤ steps
   pub marks : Marks m met
-  pub rest : w ≡ walkOf s left met from at
+  pub least : FirstMisfit fits met (cells s) kept
+  pub fresh : (c : ℕ) → count c met ≡ 0 → fits c ≡ eqb (kindOf s c) kind
+  pub rest : w ≡ walkOf s steps met from at
 
 -- and stops here
-pub arrived : (s m : List ℕ) (left from at : ℕ) (w : Stop × List ℕ) (r : Stop) (o : On s m left from at w) → walkOf s left (o .met) from at ≡ (r, o .met) → Walked r m w
-arrived s m left from at w r o e =
-    let h : w ≡ (r, o .met) = o .rest ∙ e in
-    record { stop = sym (ap (λ (x : Stop × List ℕ). x .0) h); marks = subst (λ (l : List ℕ). Marks m l) (sym (ap (λ (x : Stop × List ℕ). x .1) h)) (o .marks) }
+pub arrived : (fits : ℕ → Bool) (s m : List ℕ) (kind left kept from at : ℕ) (w : Stop × List ℕ) (r : Traversal) (o : On fits s m kind left kept from at w)
+    → walkOf s (o .steps) (o .met) from at ≡ (r .stop, o .met) → r .kept ≡ kept → Walked fits (cells s) r m w
+arrived fits s m kind left kept from at w r o e k =
+    let h : w ≡ (r .stop, o .met) = o .rest ∙ e in
+    let l : w .1 ≡ o .met = ap (λ (x : Stop × List ℕ). x .1) h in
+    record { stop = sym (ap (λ (x : Stop × List ℕ). x .0) h); marks = rw l (o .marks); kept = rw (l, k) (o .least) }
+
+-- the smaller of a misfit and the one kept is kept
+pub misfit-more : (fits : ℕ → Bool) (met : List ℕ) (n k at d : ℕ) → FirstMisfit fits met n k → at < n → d ≡ cond (not (fits at)) (cond (ltb at k) at k) k → FirstMisfit fits (met ++ (at ∷ [])) n d
+misfit-more fits met n k at d g l e = byTest (fits at) refl e where
+  old : FirstMisfit fits (met ++ (at ∷ [])) n k → d ≡ k → FirstMisfit fits (met ++ (at ∷ [])) n d
+  old h q = rw q h
+
+  here : count at (met ++ (at ∷ [])) ≡ count at met + 1
+  here = count-last at met at ∙ rw (eq-eqb at at refl)
+
+  there : (c : ℕ) → (c ≡ at → ⊥) → count c (met ++ (at ∷ [])) ≡ count c met
+  there c q = count-last c met at ∙ rw (ne-eqb at c (λ h. q (sym h))) (omega arith)
+
+  more : (c : ℕ) → count c met ≤ count c (met ++ (at ∷ []))
+  more c = omega (arith, count-last c met at)
+
+  byTest : (t : Bool) → fits at ≡ t → d ≡ cond (not t) (cond (ltb at k) at k) k → FirstMisfit fits (met ++ (at ∷ [])) n d
+  byTest true f q = old (record {
+    most = g .most;
+    least = λ c b i. elim (ℕ-discrete c at) [ yes h ↦ rw h f | no h ↦ g .least c b (omega (arith, there c h)) ];
+    found = λ b. (omega (arith, g .found b .0, more k), g .found b .1);
+  }) q
+  byTest false f q = elim (decLt at k) [
+    | yes a ↦
+        let z : d ≡ at = rw (lt-ltb at k a) at q in
+        rw z (record {
+          most = omega arith;
+          least = λ c b i. g .least c (omega arith) (omega (arith, there c (λ h. omega arith)));
+          found = λ b. (omega (arith, here), f);
+        })
+    | no a ↦
+        let z : d ≡ k = rw (le-ltb at k (omega arith)) at q in
+        old (record {
+          most = g .most;
+          least = λ c b i. g .least c b (omega (arith, there c (λ h. omega arith)));
+          found = λ b. (omega (arith, g .found b .0, more k), g .found b .1);
+        }) z
+  ]
 
 -- or goes on
-pub onward : (s m n : List ℕ) (left from at : ℕ) (w : Stop × List ℕ) → 1 ≤ left → (at ≡ 0 → ⊥) → at < cells s → at < 8 * length m → bitAt m at ≡ 0 → n ≡ marked m at
-    → On s m left from at w → On s n (left - 1) at (nextOf s at) w
-onward s m n left from at w h z l k b e o =
-    let f : left ≡ suc (left - 1) = omega arith in
-    record { met = o .met ++ (at ∷ []); marks = rw e (marks-more m (o .met) at k b (o .marks)); rest = o .rest ∙ ap (λ (t : ℕ). walkOf s t (o .met) from at) f ∙ walk-on s (left - 1) (o .met) from at z l (sym (o .marks .each at) ∙ b) }
+pub onward : (fits : ℕ → Bool) (s m n : List ℕ) (kind left kept next from at : ℕ) (w : Stop × List ℕ) → 1 ≤ left → (at ≡ 0 → ⊥) → at < cells s → at < 64 * length m → bitAt m at ≡ 0 → n ≡ marked m at
+    → next ≡ cond (not (eqb (kindOf s at) kind)) (cond (ltb at kept) at kept) kept
+    → On fits s m kind left kept from at w → On fits s n kind (left - 1) next at (nextOf s at) w
+onward fits s m n kind left kept next from at w h z l k b e q o =
+    let new : count at (o .met) ≡ 0 = sym (o .marks .each at) ∙ b in
+    let f : o .steps ≡ suc (o .steps - 1) = omega (arith, o .enough) in
+    record {
+      met = o .met ++ (at ∷ []);
+      steps = o .steps - 1;
+      enough = omega (arith, o .enough);
+      marks = rw e (marks-more m (o .met) at k b (o .marks));
+      least = misfit-more fits (o .met) (cells s) kept at next (o .least) l (rw (o .fresh at new) q);
+      fresh = λ c i. o .fresh c (omega (arith, count-last c (o .met) at));
+      rest = o .rest ∙ ap (λ (t : ℕ). walkOf s t (o .met) from at) f ∙ walk-on s (o .steps - 1) (o .met) from at z l new;
+    }

@@ -1,4 +1,3 @@
-pub mod Faults
 pub mod Marks
+pub mod Sound
 pub mod Found
-pub mod Nexts

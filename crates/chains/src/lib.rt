@@ -1,27 +1,35 @@
 // The two chains of a store: their form, and a sale in them by its numbers.
+use cells::Stop;
+
 pub mod find;
 pub mod form;
 mod marks;
-mod nexts;
+mod sound;
 mod walk;
 
-// How the walk of a chain stops.
-pub enum Stop {
-    // At a zero index.
-    End,
-    // At an index past the last cell or to a cell met before; the cell that holds it.
-    Broken(usize),
+// What the walk of a chain leaves.
+pub struct Traversal {
+    pub stop: Stop,
+    // The first cell met so far, in either chain, whose kind does not fit; the number of cells where each does.
+    pub kept: usize,
+    // Cells that were not met, but for cell 0.
+    pub left: usize,
 }
 
-// The first fault of a store.
-pub enum Fault {
-    Sound,
-    // The length is not as said.
-    Length,
-    // An index past the last cell or to a cell met before; the cell that holds it.
-    Index(usize),
-    // A cell whose kind does not fit its chain, or which is in neither.
-    Kind(usize),
+// How far the walk of both chains side by side came.
+pub struct BothWalked {
+    // No fault was seen.
+    pub going: bool,
+    pub sold: usize,
+    pub free: usize,
+    // Cells that were not met, but for cell 0.
+    pub left: usize,
+}
+
+// How the walk of one chain went.
+pub struct OneWalked {
+    pub ended: bool,
+    pub left: usize,
 }
 
 // Where a sale stands.

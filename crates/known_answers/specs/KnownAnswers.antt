@@ -1,4 +1,4 @@
--- The bench sheet's cases that are proved, P1 to P11 and the limits of the checks, and rows of the cards, as rows of one table (document 01, "Bench sheet"; document 02, cards 1, 2, 4, 5 and 6). Assumes nothing.
+-- The bench sheet's cases that are proved, P1 to P11 and the limits of the checks, and rows of the cards, as rows of one table (document 01, "Bench sheet"; document 02, cards 1, 2 and 4 to 7). Assumes nothing.
 use mathlib.Core.Path.{_≡_}
 use mathlib.Core.List.{List, [], _∷_, _++_}
 use Prim.Native.Nat.{ℕ, suc, _+_, _-_, _%_, _<_}
@@ -147,9 +147,17 @@ paid means = record { machine = 7; sale = 1; tail = zeros 8; amount = 150; colum
 unfoldable pub bodyNamed : ℕ → ℕ → List ℕ
 bodyNamed machine sale = lowBytes 4 machine ++ (lowBytes 4 sale ++ zeros 53)
 
+-- a store of n cells in which sale 1 of machine 7 was taken
+unfoldable pub oneSold : ℕ → List ℕ
+oneSold n = filled (bodyNamed 7 1) (fresh n)
+
 -- a store of n cells in which sales 1 and 2 of machine 7 were taken, of bytes that don't open
 unfoldable pub twoSales : ℕ → List ℕ
-twoSales n = filled (bodyNamed 7 2) (filled (bodyNamed 7 1) (fresh n))
+twoSales n = filled (bodyNamed 7 2) (oneSold n)
+
+-- what read's checks find in a store, asked for sale 1 of machine 7
+unfoldable pub brokenBy : List ℕ → List ℕ
+brokenBy s = finds (readChecks 7 1 s)
 
 -- the sale of 150 cents as its cell's 61 bytes, means 1, sealed with sampleKey from card 4's start; no passage of documents 01 and 02
 unfoldable pub soldBody : List ℕ
@@ -211,19 +219,12 @@ table =
     -- ---- card 1: the store
     ∷ record { got = fresh 2; want = 0 ∷ 0 ∷ 1 ∷ 0 ∷ zeros 124 }  -- a formatted store: two cells, and three of them chained
     ∷ record { got = free (fresh 3); want = 1 ∷ 2 ∷ [] }
-    ∷ record { got = finds (formatChecks (zeros 64)); want = 14 ∷ 0 ∷ [] }  -- one cell, two, and a byte more
+    ∷ record { got = finds (formatChecks (zeros 64)); want = 18 ∷ 0 ∷ [] }  -- one cell, two, and a byte more
     ∷ record { got = finds (formatChecks (zeros 128)); want = 0 ∷ 0 ∷ [] }
-    ∷ record { got = finds (formatChecks (zeros 129)); want = 14 ∷ 0 ∷ [] }
+    ∷ record { got = finds (formatChecks (zeros 129)); want = 18 ∷ 0 ∷ [] }
     ∷ record { got = answered (formatCall (nines 128)); want = 0 ∷ 0 ∷ fresh 2 }
-    ∷ record { got = finds (takeChecks (zeros 31) (paid 1) (zeros 64)); want = 3 ∷ 0 ∷ [] }  -- 3 before 14
-    ∷ record { got = finds (readChecks 7 1 (zeros 64)); want = 14 ∷ 0 ∷ [] }  -- each ground of 14: one cell alone,
-    ∷ record { got = finds (readChecks 7 1 (set (fresh 2) 2 2)); want = 14 ∷ 0 ∷ [] }  -- an index past the last cell, in cell 0 and in another,
-    ∷ record { got = finds (readChecks 7 1 (set (fresh 2) 64 2)); want = 14 ∷ 0 ∷ [] }
-    ∷ record { got = finds (readChecks 7 1 (set (fresh 2) 66 1)); want = 14 ∷ 0 ∷ [] }  -- kind 1 among the free,
-    ∷ record { got = finds (readChecks 7 1 (set (filled (bodyNamed 7 1) (fresh 2)) 66 2)); want = 14 ∷ 0 ∷ [] }  -- kind 2 among the sales,
-    ∷ record { got = finds (readChecks 7 1 (set (fresh 2) 2 0)); want = 14 ∷ 0 ∷ [] }  -- a cell in no chain,
-    ∷ record { got = finds (readChecks 7 1 (set (fresh 2) 64 1)); want = 14 ∷ 0 ∷ [] }  -- a ring
-    ∷ record { got = finds (takeChecks (zeros 32) (paid 1) (filled (bodyNamed 7 1) (fresh 2))); want = 16 ∷ 0 ∷ [] }  -- the same numbers again: 16 before 15
+    ∷ record { got = finds (takeChecks (zeros 31) (paid 1) (zeros 64)); want = 3 ∷ 0 ∷ [] }  -- 3 before 18
+    ∷ record { got = finds (takeChecks (zeros 32) (paid 1) (oneSold 2)); want = 16 ∷ 0 ∷ [] }  -- the same numbers again: 16 before 15
     ∷ record { got = finds (takeChecks (zeros 32) (paid 1) (filled (bodyNamed 7 2) (fresh 2))); want = 15 ∷ 0 ∷ [] }
     ∷ record { got = finds (cancelChecks (zeros 32) 7 3 (twoSales 3)); want = 16 ∷ 0 ∷ [] }  -- absent on cancel
     ∷ record { got = finds (cancelChecks sampleKey 7 1 (twoSales 3)); want = 9 ∷ 1 ∷ [] }  -- 9 with its cell: of the sale named, and of the first in the chain
@@ -231,7 +232,7 @@ table =
     ∷ record { got = answered (readRefusal 7 1 (fresh 2), readPart 7 1 (fresh 2)); want = 16 ∷ 0 ∷ [] }  -- absent on read, and there: the refusal and the part,
     ∷ record { got = answered (readRefusal 7 1 (twoSales 3), readPart 7 1 (twoSales 3)); want = 0 ∷ 0 ∷ bodyNamed 7 1 }
     ∷ record { got = answered (readOffset 7 1 (twoSales 3), []); want = 0 ∷ 67 ∷ [] }  -- and the offset for C
-    ∷ record { got = emptied 0 1 (filled (bodyNamed 7 1) (fresh 3)); want = fresh 3 }  -- taken and cancelled: as it was
+    ∷ record { got = emptied 0 1 (oneSold 3); want = fresh 3 }  -- taken and cancelled: as it was
     ∷ record {
       got =
           let s = filled (bodyNamed 7 3) (twoSales 5) in
@@ -312,6 +313,26 @@ table =
     ∷ record { got = drop 21 (sealRunCall 1 4 (zeros 32) (zeros 16) [] [] (zeros 32) (zeros 21 ++ (5 ∷ 6 ∷ [])) .1 .1); want = 5 ∷ 6 ∷ [] }  -- what lies behind the run
     ∷ record { got = openedByRun 1 newOppParcel; want = 0 ∷ 3 ∷ 0 ∷ 1 ∷ 2 ∷ 9 ∷ [] }  -- opened from a run: the answer and the output
     ∷ record { got = openedByRun 2 (set newMroParcel 34 0); want = 9 ∷ 0 ∷ 0 ∷ 0 ∷ 0 ∷ 9 ∷ [] }  -- refused with 9, where the tag's last byte differs
+    -- ---- card 7: what is broken in the store
+    ∷ record { got = brokenBy (zeros 64); want = 18 ∷ 0 ∷ [] }  -- one cell alone,
+    ∷ record { got = brokenBy (set (nines 129) 0 1); want = 18 ∷ 0 ∷ [] }  -- and a byte too many before all else
+    ∷ record { got = brokenBy (set (fresh 3) 0 3); want = 19 ∷ 0 ∷ [] }  -- an index past the last cell: the first sale's,
+    ∷ record { got = brokenBy (set (fresh 3) 2 3); want = 19 ∷ 0 ∷ [] }  -- the first free one,
+    ∷ record { got = brokenBy (set (fresh 3) 64 3); want = 19 ∷ 1 ∷ [] }  -- and one that cell 1 holds
+    ∷ record { got = brokenBy (set (fresh 3) 64 1); want = 19 ∷ 1 ∷ [] }  -- a cell reached twice: by itself,
+    ∷ record { got = brokenBy (set (fresh 3) 128 1); want = 19 ∷ 2 ∷ [] }  -- by a ring,
+    ∷ record { got = brokenBy (set (oneSold 3) 128 1); want = 19 ∷ 2 ∷ [] }  -- by a free cell that names a sale,
+    ∷ record { got = brokenBy (set (oneSold 3) 2 1); want = 19 ∷ 0 ∷ [] }  -- and by both heads
+    ∷ record { got = brokenBy (set (set (oneSold 3) 64 5) 2 5); want = 19 ∷ 1 ∷ [] }  -- both chains broken: the sales' first
+    ∷ record { got = brokenBy (set (set (fresh 3) 66 1) 128 3); want = 19 ∷ 2 ∷ [] }  -- an index before a kind of a cell below
+    ∷ record { got = brokenBy (set (fresh 3) 130 1); want = 20 ∷ 2 ∷ [] }  -- kind 1 among the free,
+    ∷ record { got = brokenBy (set (oneSold 3) 66 0); want = 20 ∷ 1 ∷ [] }  -- 0 and 2 among the sales
+    ∷ record { got = brokenBy (set (oneSold 3) 66 2); want = 20 ∷ 1 ∷ [] }
+    ∷ record { got = brokenBy (set (fresh 3) 64 0); want = 20 ∷ 2 ∷ [] }  -- a cell in neither chain
+    ∷ record { got = brokenBy (set (set (fresh 4) 64 3) 194 1); want = 20 ∷ 2 ∷ [] }  -- a missing cell before a kind above it,
+    ∷ record { got = brokenBy (set (set (fresh 4) 64 3) 66 1); want = 20 ∷ 1 ∷ [] }  -- a kind before a missing cell above it,
+    ∷ record { got = brokenBy (set (set (fresh 4) 130 9) 194 9); want = 20 ∷ 2 ∷ [] }  -- and of two kinds the lower cell's
+    ∷ record { got = answered (cancelCall (zeros 32) 7 1 (set (oneSold 3) 64 3)); want = 19 ∷ 1 ∷ set (oneSold 3) 64 3 }  -- a call that would write: the answer and the store, unchanged
     ∷ []
 
 -- row i of the table

@@ -13,6 +13,7 @@ use Rattle.answers.specs.declared.Answer.{Answer}
 use Rattle.answers.specs.declared.Answer.the-variants.{Done, Refused}
 use Rattle.answers.proofs.Values.{isDone, checked-unchanged}
 use Rattle.cells.specs.Cells.{firstFree, sales, lengthFits}
+use Rattle.cells.specs.Faults.{lengthOr, faultCheck}
 use Rattle.cells.proofs.Form.{in-all}
 use Rattle.sales.specs.declared.Sale.{Sale}
 use Rattle.entries.specs.Entries.{opensAt, salesIn}
@@ -39,11 +40,11 @@ agrees key s b k i = record {
 
 -- a store of a right length, formatted
 formatted : (key s : List ℕ) → lengthFits s ≡ true → Kept key (formatCall s .1) (newBook 0 [])
-unfolding formatCall formatChecks line lineAt checked
+unfolding formatCall formatChecks lengthOr faultCheck checked
 formatted key s e = rw e (kept-format key s e)
 
 formats : (s : List ℕ) → lengthFits s ≡ true → formatCall s .0 ≡ Done 0
-unfolding formatCall formatChecks line lineAt checked
+unfolding formatCall formatChecks lengthOr faultCheck checked
 formats s e = rw e
 
 -- ---- refused calls

@@ -10,7 +10,7 @@ use lib.ListN.{length, length-map}
 use borrow.Author.Tests.{eq-eqb, ne-eqb, eqb-false, lt-ltb, le-ltb, not-false}
 use Rattle.words.specs.Block.{Bytes}
 use Rattle.answers.specs.Answers.{line, lineAt, checked, judged}
-use Rattle.answers.specs.declared.Ground.the-variants.{KeyLength, StoreForm, SaleNumbers, TagDiffers, StoreFull}
+use Rattle.answers.specs.declared.Ground.the-variants.{KeyLength, SaleNumbers, TagDiffers, StoreFull}
 use Rattle.answers.specs.declared.Check.{Check}
 use Rattle.answers.specs.declared.Check.the-variants.{Clear}
 use Rattle.answers.specs.declared.Answer.the-variants.{Done}
@@ -21,6 +21,7 @@ use Rattle.cells.specs.Changes.{fresh, filled, emptied}
 use Rattle.cells.proofs.Cells.{body-length}
 use Rattle.cells.proofs.Chains.{In, others, first-in, others-in}
 use Rattle.cells.proofs.Form.{Form, form-of, of-form, size-of, sales-are, long-of, in-cases, none-in, in-none}
+use Rattle.cells.proofs.FirstFault.{check-formed, formed-check, length-clear}
 use Rattle.cells.proofs.Filled.{filled-form, filled-body, filled-others}
 use Rattle.cells.proofs.Emptied.{emptied-form, emptied-others}
 use Rattle.cells.proofs.Fresh.{fresh-form}
@@ -38,19 +39,18 @@ use Rattle.ledger.proofs.Sales.{map-ext, without-map, found-map, cash-c
 -- key and form are right: the next checks decide
 keys-next : (key s : List ℕ) (next : Check) → length key ≡ 32 → formed s ≡ true → keyChecks key s next ≡ next
 unfolding keyChecks formChecks line lineAt
-keys-next key s next k f = rw (eq-eqb (length key) 32 k, f)
+keys-next key s next k f = rw (eq-eqb (length key) 32 k, formed-check s next f)
 
 keys-clear : (key s : List ℕ) (next : Check) → keyChecks key s next ≡ Clear → (formed s ≡ true) × (next ≡ Clear)
 unfolding keyChecks formChecks
 keys-clear key s next e =
     let a = line-clear _ KeyLength _ e in
-    let b = line-clear (not (formed s)) StoreForm next (a .1) in
-    (not-false (formed s) (b .0), b .1)
+    check-formed s next (a .1)
 
 -- format's checks are clear: the length is as said
 pub format-clear : (s : List ℕ) → formatChecks s ≡ Clear → lengthFits s ≡ true
 unfolding formatChecks
-format-clear s e = not-false (lengthFits s) (line-clear (not (lengthFits s)) StoreForm Clear e .0)
+format-clear s e = length-clear s e
 
 -- take's checks are clear: some cell is free
 pub take-clear : (key : List ℕ) (x : Sale) (s : List ℕ) → takeChecks key x s ≡ Clear → firstFree s ≡ 0 → ⊥
@@ -216,7 +216,7 @@ module _ (key : List ℕ) where
     -- read hands out the sale that stands first under these numbers, or none
     pub read-holds : heldIn key (readPart machine sale s) ≡ found machine sale (salesIn key s)
     unfolding readPart readChecks formChecks line lineAt
-    read-holds = rw (h .form, sale-found) (part-holds (present machine sale s) refl)
+    read-holds = rw (formed-check s _ (h .form), sale-found) (part-holds (present machine sale s) refl)
 
   -- ---- what take answers
 

@@ -8,14 +8,16 @@ use lib.ListN.{length}
 use borrow.Author.Tests.{eq-eqb, ne-eqb, eqb-true, not-false}
 use Rattle.answers.specs.Answers.{lineAt, line, checked, judged}
 use Rattle.answers.specs.declared.Ground.{Ground}
-use Rattle.answers.specs.declared.Ground.the-variants.{KeyLength, TagDiffers, StoreForm, StoreFull, SaleNumbers}
+use Rattle.answers.specs.declared.Ground.the-variants.{KeyLength, TagDiffers, StoreFull, SaleNumbers}
 use Rattle.answers.specs.declared.Check.{Check}
 use Rattle.answers.specs.declared.Check.the-variants.{Clear, Fails}
 use Rattle.answers.specs.declared.Answer.{Answer}
 use Rattle.answers.specs.declared.Answer.the-variants.{Done, Refused}
 use Rattle.answers.proofs.Values.{after, line-after, line-clear, stopped, passed-on, judged-done, judged-refused}
 use Rattle.cells.specs.Cells.{firstFree, bodyOf, formed, present, cellNamed, cellBefore}
+use Rattle.cells.specs.Faults.{faultOf}
 use Rattle.cells.specs.Changes.{filled, emptied}
+use Rattle.cells.proofs.FirstFault.{check-formed, check-after}
 use Rattle.sales.specs.declared.Sale.{Sale}
 use Rattle.sales.specs.Sale.{bodyFor}
 use Rattle.entries.specs.Entries.{opensAt, shutAt, saleAt}
@@ -25,11 +27,11 @@ use Rattle.store.specs.Store.{formChecks, keyChecks, takeChecks, cancelC
 
 pub form-clear : (s : List ℕ) → formChecks s Clear ≡ Clear → formed s ≡ true
 unfolding formChecks
-form-clear s e = not-false (formed s) (line-clear (not (formed s)) StoreForm Clear e .0)
+form-clear s e = check-formed s Clear e .0
 
 pub form-after : (s : List ℕ) (next : Check) → formChecks s next ≡ after (formChecks s Clear) next
-unfolding formChecks after
-form-after s next = line-after (not (formed s)) StoreForm Clear next
+unfolding formChecks
+form-after s next = check-after (faultOf s) next
 
 pub key-clear : (key s : List ℕ) → keyChecks key s Clear ≡ Clear → (length key ≡ 32) × (formed s ≡ true)
 unfolding keyChecks
@@ -165,11 +167,11 @@ module _ (machine sale : ℕ) (s : List ℕ) {a : Answer} (e : a ≡ judged (rea
 
     pub located-formed : formed s ≡ true
     unfolding readChecks formChecks
-    located-formed = not-false (formed s) (line-clear (not (formed s)) StoreForm _ (located .0) .0)
+    located-formed = check-formed s _ (located .0) .0
 
     pub located-present : present machine sale s ≡ true
     unfolding readChecks formChecks
-    located-present = not-false _ (line-clear (not (present machine sale s)) SaleNumbers Clear (line-clear (not (formed s)) StoreForm _ (located .0) .1) .0)
+    located-present = not-false _ (line-clear (not (present machine sale s)) SaleNumbers Clear (check-formed s _ (located .0) .1) .0)
 
     pub located-part : {part : List ℕ} → part ≡ bodyOf s c → part ≡ readPart machine sale s
     unfolding readPart partWhere

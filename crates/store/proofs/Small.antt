@@ -10,14 +10,15 @@ use borrow.Author.Tests.{eqb-false, not-false}
 use Rattle.words.specs.Block.{Bytes}
 use Rattle.words.proofs.Blocks.{bytes-take, bytes-drop}
 use Rattle.answers.specs.Answers.{valueOf, line}
-use Rattle.answers.specs.declared.Ground.the-variants.{KeyLength, TagDiffers, StoreForm, StoreFull, SaleNumbers}
+use Rattle.answers.specs.declared.Ground.the-variants.{KeyLength, TagDiffers, StoreFull, SaleNumbers}
 use Rattle.answers.specs.declared.Check.{Check}
 use Rattle.answers.specs.declared.Check.the-variants.{Clear}
 use Rattle.answers.proofs.Values.{placeOf, line-clear, lineAt-lt, checked-lt, judged-lt}
 use Rattle.cells.specs.Chains.{some, first}
-use Rattle.cells.specs.Cells.{cells, firstFree, bodyOf, sales, lengthFits, formed, present, cellNamed}
+use Rattle.cells.specs.Cells.{cells, firstFree, bodyOf, sales, formed, present, cellNamed}
 use Rattle.cells.proofs.Chains.{first-in}
 use Rattle.cells.proofs.Form.{form-of}
+use Rattle.cells.proofs.FirstFault.{check-formed, check-place, length-place}
 use Rattle.sales.specs.declared.Sale.{Sale}
 use Rattle.sales.proofs.Bodies.{amount-lt}
 use Rattle.entries.specs.Entries.{shutAt, saleAt}
@@ -28,10 +29,10 @@ use Rattle.store.proofs.Sought.{cell-inside, free-inside}
 cell-low : (s : List ℕ) (c : ℕ) → formed s ≡ true → c < cells s → 64 * c + 64 < 2 ^ 32
 cell-low s c e h = let f = form-of s e .size in omega (arith, f .whole, f .most)
 
--- the checks in front have place 0
+-- the checks in front have place 0 or that of a cell
 form-place : (s : List ℕ) (next : Check) → (formed s ≡ true → placeOf next < 2 ^ 32) → placeOf (formChecks s next) < 2 ^ 32
-unfolding formChecks line
-form-place s next h = lineAt-lt (2 ^ 32) (not (formed s)) StoreForm 0 next (λ t. lit< tt) (λ t. h (not-false _ t))
+unfolding formChecks
+form-place s next h = check-place s next h
 
 key-place : (key s : List ℕ) (next : Check) → (formed s ≡ true → placeOf next < 2 ^ 32) → placeOf (keyChecks key s next) < 2 ^ 32
 unfolding keyChecks line
@@ -40,16 +41,15 @@ key-place key s next h = lineAt-lt (2 ^ 32) (not (eqb (length key) 32)) KeyLengt
 -- where all checks are clear
 form-all : (s : List ℕ) (next : Check) → formChecks s next ≡ Clear → (formed s ≡ true) × (next ≡ Clear)
 unfolding formChecks
-form-all s next e = let f = line-clear (not (formed s)) StoreForm next e in (not-false (formed s) (f .0), f .1)
+form-all s next e = check-formed s next e
 
 key-all : (key s : List ℕ) (next : Check) → keyChecks key s next ≡ Clear → (formed s ≡ true) × (next ≡ Clear)
 unfolding keyChecks
 key-all key s next e = form-all s next (line-clear (not (eqb (length key) 32)) KeyLength _ e .1)
 
 pub format-small : (s : List ℕ) → valueOf (formatCall s .0) < 2 ^ 32
-unfolding formatCall formatChecks line
-format-small s =
-    checked-lt (2 ^ 32) (formatChecks s) s _ (lineAt-lt (2 ^ 32) (not (lengthFits s)) StoreForm 0 Clear (λ t. lit< tt) (λ t. lit< tt)) (λ e. lit< tt)
+unfolding formatCall formatChecks
+format-small s = checked-lt (2 ^ 32) (formatChecks s) s _ (rw (length-place s) (lit< tt)) (λ e. lit< tt)
 
 pub take-small : (key : List ℕ) (x : Sale) (s : List ℕ) → valueOf (takeCall key x s .0) < 2 ^ 32
 unfolding takeCall takeChecks

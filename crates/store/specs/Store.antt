@@ -1,17 +1,19 @@
--- The store's calls: format, take, cancel, total and read (document 02, card 1). Assumes nothing.
+-- The store's calls: format, take, cancel, total and read (document 02, cards 1 and 7). Assumes nothing.
 use mathlib.Core.Bool.{not}
 use mathlib.Core.List.{List, []}
 use Prim.Native.Nat.{ℕ, _+_, _*_}
 use lib.Dec.{eqb}
 use lib.ListN.{length}
 use Rattle.answers.specs.Answers.{line, lineAt, checked, judged}
-use Rattle.answers.specs.declared.Ground.the-variants.{KeyLength, TagDiffers, StoreForm, StoreFull, SaleNumbers}
+use Rattle.answers.specs.declared.Ground.the-variants.{KeyLength, TagDiffers, StoreFull, SaleNumbers}
 use Rattle.answers.specs.declared.Check.{Check}
 use Rattle.answers.specs.declared.Check.the-variants.{Clear, Fails}
 use Rattle.answers.specs.declared.Answer.{Answer}
 use Rattle.answers.specs.declared.Answer.the-variants.{Done}
 use Rattle.cells.specs.Chains.{some, first}
-use Rattle.cells.specs.Cells.{cells, firstFree, bodyOf, sales, lengthFits, formed, present, cellNamed, cellBefore}
+use Rattle.cells.specs.Cells.{cells, firstFree, bodyOf, sales, present, cellNamed, cellBefore}
+use Rattle.cells.specs.declared.Fault.the-variants.{Sound}
+use Rattle.cells.specs.Faults.{lengthOr, faultOf, faultCheck}
 use Rattle.cells.specs.Changes.{fresh, filled, emptied}
 use Rattle.sales.specs.declared.Sale.{Sale}
 use Rattle.sales.specs.Sale.{bodyFor}
@@ -19,17 +21,17 @@ use Rattle.entries.specs.Entries.{shutAt, saleAt, salesIn, cash}
 
 -- ---- checks
 
--- the store's form, 14; then the checks behind it
+-- what is broken in the store, 18, 19 or 20; then the checks behind it
 unfoldable pub formChecks : List ℕ → Check → Check
-formChecks s next = line (not (formed s)) StoreForm next
+formChecks s next = faultCheck (faultOf s) next
 
 -- where a key is taken, 3 first
 unfoldable pub keyChecks : List ℕ → List ℕ → Check → Check
 keyChecks key s next = line (not (eqb (length key) 32)) KeyLength (formChecks s next)
 
--- format checks the length only
+-- format checks the length only, 18
 unfoldable pub formatChecks : List ℕ → Check
-formatChecks s = line (not (lengthFits s)) StoreForm Clear
+formatChecks s = faultCheck (lengthOr s Sound) Clear
 
 -- take: 16 where the machine and sale number are already present, then 15 where no cell is free
 unfoldable pub takeChecks : List ℕ → Sale → List ℕ → Check

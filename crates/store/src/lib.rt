@@ -35,7 +35,7 @@ pub fn format(store: &mut [u8]) -> Answer
     ensures { λ r. ⌜ (r, now (store .exit)) ≡ formatCall (now (store .entry)) ⌝ }
 {
     if !length_fits(store) {
-        return Answer::Refused(Ground::StoreForm, 0);
+        return Answer::Refused(Ground::StoreLength, 0);
     }
     cells::writing::format(store);
     Answer::Done(0)

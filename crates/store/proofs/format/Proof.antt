@@ -1,7 +1,8 @@
 use mathlib.Core.Path.{sym, _∙_}
 use native.Mathlib.Omega.{arith}
 use borrow.Author.Tests.{not-true, not-false}
-use Rattle.answers.specs.Answers.{line, lineAt, checked}
+use Rattle.answers.specs.Answers.{checked}
+use Rattle.cells.specs.Faults.{lengthOr, faultCheck}
 use Rattle.cells.proofs.Form.{long-of}
 use Rattle.store.specs.Store.{formatCall, formatChecks}
 use borrow.Author.Needs.{needs}
@@ -22,7 +23,7 @@ same-length c = search needs
 
 -- src/lib.rt:41:9
 returns : tie.Need-returns
-unfolding formatCall formatChecks line lineAt checked
+unfolding formatCall formatChecks lengthOr faultCheck checked
 returns c = rw (sym (c .before .length-fits .ensures) ∙ not-true _ (c .if1 .taken))
 
 -- src/lib.rt:43:5
@@ -37,7 +38,7 @@ same-length-2 c = search needs
 
 -- src/lib.rt:37:1
 returns-2 : tie.Need-returns-2
-unfolding formatCall formatChecks line lineAt checked
+unfolding formatCall formatChecks lengthOr faultCheck checked
 returns-2 c = rw (sym (c .before .before .before .before .before .length-fits .ensures) ∙ not-false _ (c .before .before .before .before .if1 .left), c .before .before .format .ensures)
 
 pub format-spec : {M : Type 1} → statement M

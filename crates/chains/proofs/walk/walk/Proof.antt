@@ -1,115 +1,129 @@
-use mathlib.Core.Path.{_≡_, refl, sym, _∙_}
+use mathlib.Core.Path.{_≡_, refl, sym, ap, _∙_}
+use mathlib.Core.Bool.{Bool, cond, not}
 use mathlib.Core.List.{List}
-use Prim.Native.Nat.{ℕ, _/_}
+use Prim.Native.Nat.{ℕ, _/_, _*_, _≤_}
 use native.Mathlib.Omega.{arith}
+use lib.Dec.{eqb, ltb}
 use lib.ListN.{length}
-use Rattle.cells.specs.Cells.{cells}
-use Rattle.chains.specs.Faults.{walkOf}
-use Rattle.chains.specs.Marks.{Marks}
-use Rattle.chains.proofs.Walks.{On, walk-end, walk-out, walk-past, walk-twice, arrived, onward}
-use Rattle.chains.proofs.Bits.{bit-none, bit-some}
+use Rattle.cells.specs.Chains.{count}
+use Rattle.cells.specs.Cells.{cells, kindOf}
+use Rattle.cells.specs.Faults.{walkOf}
+use Rattle.chains.specs.Marks.{Marks, Unmet, FirstMisfit}
+use Rattle.cells.proofs.Walks.{walk-end, walk-past, walk-twice}
+use Rattle.chains.proofs.Walks.{On, arrived, onward}
+use Rattle.chains.proofs.Bits.{bit-none, bit-some, unmet-one, unmet-less}
+use borrow.Author.Needs.{needs}
 use Rattle.chains.proofs.walk.walk.Statement.{statement}
 use Rattle.chains.proofs.walk.walk.Tie as tie
 use Rattle.chains.proofs.walk.walk.Reads as reads
 use Rattle.chains.proofs.walk.walk.Lts as lts
 use Rattle.chains.proofs.marks.is_marked.Reads as is-marked-reads
 use Rattle.chains.proofs.marks.mark.Reads as mark-reads
-use Rattle.chains.proofs.nexts.next_in.Reads as next-in-reads
+use Rattle.cells.proofs.fields.front_of.Reads as front-of-reads
+use Rattle.chains.proofs.walk.lesser.Reads as lesser-reads
 
 abbrev Inv-loop : tie.InvT-loop
-Inv-loop s nexts marks₀ first n left₀ from₀ at₀ marks left from at = (length marks ≡ length marks₀) × ((met : List ℕ) → Marks marks₀ met → On s marks left from at (walkOf s (length s / 64) met 0 first))
+Inv-loop s marks₀ first kind misfit unmet cells left₀ kept₀ from₀ at₀ marks left kept from at =
+    ((length marks ≡ length marks₀) × Unmet (length s / 64) marks left)
+    × ((fits : ℕ → Bool) (met : List ℕ) → Marks marks₀ met → FirstMisfit fits met (length s / 64) misfit → ((c : ℕ) → count c met ≡ 0 → fits c ≡ eqb (kindOf s c) kind) → On fits s marks kind left kept from at (walkOf s (length s / 64) met 0 first))
 
 abbrev μ-loop : tie.MeasureT-loop
-μ-loop s nexts marks₀ first n left₀ from₀ at₀ marks left from at = left
+μ-loop s marks₀ first kind misfit unmet cells left₀ kept₀ from₀ at₀ marks left kept from at = left
 
--- src/walk.rt:23:9
+-- src/walk.rt:49:9
 loop-holds : tie.Need-loop-holds Inv-loop μ-loop
 unfolding cells
-loop-holds c = (refl, λ met h. record { met = met; marks = h; rest = refl })
+loop-holds c =
+    let p = c .before .before .pre in
+    ((refl, p .1), λ fits met h k f. record { met = met; steps = length (c .before .before .args .s .now) / 64; enough = omega (arith, p .1 .many); marks = h; least = k; fresh = f; rest = refl })
 
--- src/walk.rt:33:12
+-- src/walk.rt:56:12
 is-marked-requires : tie.Need-is-marked-requires Inv-loop μ-loop
 unfolding cells
 is-marked-requires c κs = omega arith
 
--- src/walk.rt:36:9
+-- src/walk.rt:59:9
 mark-requires : tie.Need-mark-requires Inv-loop μ-loop
 unfolding cells
-mark-requires c κs = (omega arith, bit-none _ _ (sym (c .before .before .is-marked .ensures) ∙ c .before .if4 .left))
+mark-requires c κs = (omega arith, bit-none _ _ (sym (c .before .before .is-marked .ensures) ∙ c .before .if3 .left))
 
--- src/walk.rt:37:9
+-- src/walk.rt:60:9
 sub-left : tie.Need-sub-left Inv-loop μ-loop
 unfolding cells
-sub-left c = omega arith
+sub-left c =
+    let u = c .before .before .before .before in
+    let l = u .before .before .before .before .before in
+    unmet-one (l .loop .marks) (l .loop .at) _ (l .loop .left) (omega arith) (l .loop .inv .0 .1) (λ e. omega arith) (omega arith) (bit-none _ _ (sym (u .before .is-marked .ensures) ∙ u .if3 .left))
 
--- src/walk.rt:39:9
-next-in-requires : tie.Need-next-in-requires Inv-loop μ-loop
+-- src/walk.rt:61:13
+front-of-requires : tie.Need-front-of-requires Inv-loop μ-loop
 unfolding cells
-next-in-requires c κs = omega arith
+front-of-requires c κs = omega arith
 
--- src/walk.rt:23:9
+-- src/walk.rt:62:9
+lesser-requires : tie.Need-lesser-requires Inv-loop μ-loop
+lesser-requires c κs = search needs
+
+-- src/walk.rt:49:9
 loop-less : tie.Need-loop-less Inv-loop μ-loop
 unfolding cells
-loop-less c = omega arith
+loop-less c =
+    let u = c .before .before .before .before .before .before in
+    let l = u .before .before .before .before .before in
+    let h = unmet-one (l .loop .marks) (l .loop .at) _ (l .loop .left) (omega arith) (l .loop .inv .0 .1) (λ e. omega arith) (omega arith) (bit-none _ _ (sym (u .before .is-marked .ensures) ∙ u .if3 .left)) in
+    omega arith
 
--- src/walk.rt:23:9
+-- src/walk.rt:49:9
 loop-again : tie.Need-loop-again Inv-loop μ-loop
 unfolding cells
 loop-again c =
-    let in-loop = c .before .before .before .before .before .before .before .before .before .before .before .loop in
-    let fresh = c .before .before .before .before .before in
-    let table = c .before .before .before .before .before .before .before .before .before .before .before .before .before .before .before .pre .1 .1 in
-    let next = c .next-in .ensures ∙ table .each (in-loop .at) (omega arith) in
-    (omega arith, λ met h. rw next (onward _ _ _ (in-loop .left) (in-loop .from) (in-loop .at) _ (omega arith) (λ e. omega arith) (omega arith) (omega arith) (bit-none _ _ (sym (fresh .before .is-marked .ensures) ∙ fresh .if4 .left)) (c .before .before .before .mark .ensures) (in-loop .inv .1 met h)))
+    let u = c .before .before .before .before .before .before in
+    let l = u .before .before .before .before .before .loop in
+    let new = bit-none _ _ (sym (u .before .is-marked .ensures) ∙ u .if3 .left) in
+    let set = c .before .before .before .before .mark .ensures in
+    let some = unmet-one (l .marks) (l .at) _ (l .left) (omega arith) (l .inv .0 .1) (λ e. omega arith) (omega arith) new in
+    let front = c .before .front-of .ensures in (
+      (omega arith, unmet-less (l .marks) _ (l .at) _ (l .left) (omega arith) (l .inv .0 .1) (λ e. omega arith) (omega arith) new set),
+      λ fits met h k f.
+          rw (front .0)
+          (onward fits _ (l .marks) _ _ (l .left) (l .kept) _ (l .from) (l .at) _ some (λ e. omega arith) (omega arith) (omega arith) new set (rw (front .1) at (c .lesser .ensures)) (l .inv .1 fits met h k f)),
+    )
 
--- src/walk.rt:15:1
+-- src/walk.rt:40:1
 same-length : tie.Need-same-length Inv-loop μ-loop
 unfolding cells
 same-length c = omega arith
 
--- src/walk.rt:15:1
+-- src/walk.rt:40:1
 returns : tie.Need-returns Inv-loop μ-loop
 unfolding cells
-returns c = λ met h.
-    let at = c .before .loop in
-    arrived _ _ _ (at .from) (at .at) _ _ (at .inv .1 met h) (walk-end _ _ _ (at .from) (at .at) (c .if1 .taken))
+returns c =
+    let l = c .before .loop in
+    (l .inv .0 .1, λ fits met h k f. let o = l .inv .1 fits met h k f in arrived fits _ _ _ (l .left) (l .kept) (l .from) (l .at) _ _ o (walk-end _ _ _ (l .from) (l .at) (c .if1 .taken)) refl)
 
--- src/walk.rt:15:1
+-- src/walk.rt:40:1
 same-length-2 : tie.Need-same-length-2 Inv-loop μ-loop
 unfolding cells
 same-length-2 c = omega arith
 
--- src/walk.rt:15:1
+-- src/walk.rt:40:1
 returns-2 : tie.Need-returns-2 Inv-loop μ-loop
 unfolding cells
-returns-2 c = λ met h.
-    let at = c .before .before .loop in
-    arrived _ _ _ (at .from) (at .at) _ _ (at .inv .1 met h) (walk-out _ _ _ (at .from) (at .at) (c .before .if1 .left) (c .if2 .taken))
+returns-2 c =
+    let l = c .before .before .loop in
+    (l .inv .0 .1, λ fits met h k f. let o = l .inv .1 fits met h k f in arrived fits _ _ _ (l .left) (l .kept) (l .from) (l .at) _ _ o (walk-past _ _ _ (l .from) (l .at) (c .before .if1 .left) (c .if2 .taken)) refl)
 
--- src/walk.rt:15:1
+-- src/walk.rt:40:1
 same-length-3 : tie.Need-same-length-3 Inv-loop μ-loop
 unfolding cells
 same-length-3 c = omega arith
 
--- src/walk.rt:15:1
+-- src/walk.rt:40:1
 returns-3 : tie.Need-returns-3 Inv-loop μ-loop
 unfolding cells
-returns-3 c = λ met h.
-    let at = c .before .before .before .loop in
-    arrived _ _ _ (at .from) (at .at) _ _ (at .inv .1 met h) (walk-past _ _ _ (at .from) (at .at) (c .before .before .if1 .left) (c .if3 .taken))
-
--- src/walk.rt:15:1
-same-length-4 : tie.Need-same-length-4 Inv-loop μ-loop
-unfolding cells
-same-length-4 c = omega arith
-
--- src/walk.rt:15:1
-returns-4 : tie.Need-returns-4 Inv-loop μ-loop
-unfolding cells
-returns-4 c = λ met h.
-    let at = c .before .before .before .before .before .before .loop in
-    let o = at .inv .1 met h in
-    arrived _ _ _ (at .from) (at .at) _ _ o (walk-twice _ _ _ (at .from) (at .at) (λ e. omega arith) (omega arith) (λ e. bit-some _ _ (sym (c .before .is-marked .ensures) ∙ c .if4 .taken) (o .marks .each (at .at) ∙ e)))
+returns-3 c =
+    let l = c .before .before .before .before .before .loop in
+    (l .inv .0 .1, λ fits met h k f. let o = l .inv .1 fits met h k f in arrived fits _ _ _ (l .left) (l .kept) (l .from) (l .at) _ _ o (walk-twice _ _ _ (l .from) (l .at) (λ e. omega arith) (omega arith) (λ e. bit-some _ _ (sym (c .before .is-marked .ensures) ∙ c .if3 .taken) (o .marks .each (l .at) ∙ e))) refl)
 
 pub walk-spec : {M : Type 1} → statement M
 walk-spec =
@@ -121,7 +135,8 @@ walk-spec =
     is-marked-requires
     mark-requires
     sub-left
-    next-in-requires
+    front-of-requires
+    lesser-requires
     loop-less
     loop-again
     same-length
@@ -129,6 +144,4 @@ walk-spec =
     same-length-2
     returns-2
     same-length-3
-    returns-3
-    same-length-4
-    returns-4)
+    returns-3)

@@ -1,58 +1,24 @@
 -- No fault is the form, and the form is no fault. Assumes nothing.
 use mathlib.Core.Path.{_≡_, refl, sym, ap, _∙_}
-use mathlib.Core.Bool.{Bool, true, false, cond, not, _&&_, _||_, false≢true}
+use mathlib.Core.Bool.{Bool, true, false, cond, not, _||_}
 use mathlib.Core.List.{List, [], _∷_, _++_, append-assoc, append-nil}
 use Prim.Native.Nat.{ℕ, zero, suc, _+_, _-_, _≤_, _<_}
 use native.Mathlib.Omega.{arith}
 use native.Mathlib.Decide.{decLt, ℕ-discrete}
 use lib.Dec.{eqb, ltb}
 use lib.ListN.{length}
-use borrow.Author.Tests.{eq-eqb, ne-eqb, lt-ltb, le-ltb, ltb-false, not-false, not-true, eqb-false}
-use Rattle.chains.specs.declared.Stop.{Stop}
-use Rattle.chains.specs.declared.Stop.the-variants.{End, Broken}
-use Rattle.chains.specs.declared.Fault.{Fault}
-use Rattle.chains.specs.declared.Fault.the-variants.{Sound, Length, Index, Kind}
-use Rattle.answers.specs.Answers.{line, lineAt}
-use Rattle.answers.specs.declared.Check.the-variants.{Clear, Fails}
-use Rattle.answers.specs.declared.Ground.the-variants.{StoreForm}
-use Rattle.cells.specs.Chains.{count}
+use borrow.Author.Tests.{eq-eqb, ne-eqb, le-ltb, ltb-false, not-false, not-true, eqb-false}
+use Rattle.cells.specs.declared.Stop.{Stop}
+use Rattle.cells.specs.declared.Stop.the-variants.{End, Broken}
+use Rattle.cells.specs.declared.Fault.{Fault}
+use Rattle.cells.specs.declared.Fault.the-variants.{Sound, Length, Index, Kind}
+use Rattle.cells.specs.Chains.{count, isIn, firstFrom}
 use Rattle.cells.specs.Cells.{cells, firstSale, firstFree, nextOf, kindOf, kindFits, lengthFits, formed}
+use Rattle.cells.specs.Faults.{walkOf, salesWalk, freeWalk, unfit, lengthOr, brokenOr, kindFault, formFault, faultOf}
 use Rattle.cells.proofs.Chains.{Linked, In}
 use Rattle.cells.proofs.Form.{Form, long-of, of-long, form-of, of-form}
-use Rattle.chains.specs.Faults.{walkOf, salesWalk, freeWalk, isIn, unfit, firstFrom, brokenOr, kindFault, formFault, faultOf}
-use Rattle.chains.proofs.Counts.{count-append, count-last, first-all, all-first}
-use Rattle.chains.proofs.Walks.{walk-end, walk-out, walk-past, walk-twice, walk-on}
-use Rattle.chains.proofs.Pigeons.{pigeons}
-
--- 1 for a cell from 1 to n - 1, else 0
-unfoldable pub inside : ℕ → ℕ → ℕ
-inside n c = cond (ltb 0 c && ltb c n) 1 0
-
-pub inside-yes : (n c : ℕ) → 0 < c → c < n → inside n c ≡ 1
-unfolding inside
-inside-yes n c a b = rw (lt-ltb 0 c a, lt-ltb c n b)
-
-pub inside-past : (n c : ℕ) → n ≤ c → inside n c ≡ 0
-unfolding inside
-inside-past n c h = rw (le-ltb c n h) (none (ltb 0 c)) where
-  none : (t : Bool) → _≡_ {A = ℕ} (cond (t && false) 1 0) 0
-  none true = refl
-  none false = refl
-
-pub inside-zero : (n c : ℕ) → c ≡ 0 → inside n c ≡ 0
-unfolding inside
-inside-zero n c e = rw (le-ltb 0 c (omega arith))
-
-pub inside-le : (n c : ℕ) → inside n c ≤ 1
-unfolding inside
-inside-le n c = bit (ltb 0 c && ltb c n) where
-  bit : (t : Bool) → _≤_ (cond t 1 0) 1
-  bit true = omega arith
-  bit false = omega arith
-
--- the cells met lie inside, each once
-pub Proper : List ℕ → List ℕ → Type 0
-Proper s met = (c : ℕ) → count c met ≤ inside (cells s) c
+use Rattle.cells.proofs.Counts.{count-append, first-all, all-first, in-yes, in-no}
+use Rattle.cells.proofs.Walks.{Proper, proper-nil, proper-on, inside, inside-yes, inside-past, inside-zero, inside-le, walk-end, walk-on, walked, short}
 
 -- where a walk that ends has been
 record Ended (s met : List ℕ) (at : ℕ) (w : Stop × List ℕ) : Type 0 where
@@ -68,33 +34,11 @@ module _ (s met : List ℕ) (at : ℕ) where
   ended-on : (w : Stop × List ℕ) → (at ≡ 0 → ⊥) → Ended s (met ++ (at ∷ [])) (nextOf s at) w → Ended s met at w
   ended-on w z e = record { chain = at ∷ e .chain; whole = e .whole ∙ append-assoc met (at ∷ []) (e .chain); linked = (refl, (omega (arith, z)), e .linked); proper = e .proper }
 
-  never-broken : (w : Stop × List ℕ) (from : ℕ) → w ≡ (Broken from, met) → w .0 ≡ End → ⊥
-  never-broken w from e h = let b : w .0 ≡ Broken from = ap (λ (x : Stop × List ℕ). x .0) e in let z : _≡_ {A = ℕ} 0 1 = cc in omega arith
-
-  proper-on : Proper s met → (at ≡ 0 → ⊥) → at < cells s → count at met ≡ 0 → Proper s (met ++ (at ∷ []))
-  unfolding Proper
-  proper-on p z l h c = elim (ℕ-discrete c at) [
-    | yes e ↦ rw (e, count-last at met at, eq-eqb at at refl, h, inside-yes (cells s) at (omega (arith, z)) l) (omega arith)
-    | no n ↦ rw (count-last c met at, ne-eqb at c (λ e. n (sym e))) (omega (arith, p c))
-  ]
-
 ended : (s : List ℕ) (n : ℕ) (met : List ℕ) (from at : ℕ) → Proper s met → walkOf s n met from at .0 ≡ End → Ended s met at (walkOf s n met from at)
-ended s zero met from at p h = elim (ℕ-discrete at 0) [
-  | yes z ↦ ended-here s met at _ p z (walk-end s zero met from at z)
-  | no z ↦ absurd (never-broken s met at _ from (walk-out s zero met from at z refl) h)
-]
-ended s (suc n) met from at p h = elim (ℕ-discrete at 0) [
-  | yes z ↦ ended-here s met at _ p z (walk-end s (suc n) met from at z)
-  | no z ↦ elim (decLt at (cells s)) [
-    | no l ↦ absurd (never-broken s met at _ from (walk-past s (suc n) met from at z (omega arith)) h)
-    | yes l ↦ elim (ℕ-discrete (count at met) 0) [
-      | no k ↦ absurd (never-broken s met at _ from (walk-twice s (suc n) met from at z l k) h)
-      | yes k ↦
-          let e = walk-on s n met from at z l k in
-          rw e (ended-on s met at _ z (ended s n (met ++ (at ∷ [])) at (nextOf s at) (proper-on s met at p z l k) (rw e at h)))
-    ]
-  ]
-]
+ended s =
+    walked s (λ n met from at w. Proper s met → w .0 ≡ End → Ended s met at w) (λ n met from at z p h. ended-here s met at (End, met) p z refl)
+    (λ n met from at z o p h. absurd (let q : _≡_ {A = ℕ} 0 1 = cc in omega arith))
+    (λ n met from at w z l k ih p h. ended-on s met at w z (ih (proper-on s met at p z l k) h))
 
 fresh-inside : (s met : List ℕ) (c : ℕ) (l : List ℕ) → Proper s (met ++ (c ∷ l)) → (c ≡ 0 → ⊥) × ((c < cells s) × (count c met ≡ 0))
 unfolding Proper count
@@ -117,12 +61,6 @@ followed s (suc n) met from at (c ∷ l) k p h =
     let g = append-assoc met (c ∷ []) l in
     rw (k .0, walk-on s n met from c (f .0) (f .1 .0) (f .1 .1), followed s n (met ++ (c ∷ [])) c (nextOf s c) l (k .2) (rw g p) (omega arith), g)
 
--- no more cells than there are
-short : (s l : List ℕ) → Proper s l → length l ≤ cells s
-unfolding Proper
-short s l p =
-    pigeons (cells s) l (λ c. omega (arith, p c, inside-le (cells s) c)) (λ c h. omega (arith, p c, inside-past (cells s) c h))
-
 -- the checks, one by one
 broken-sound : (w : Stop) (f : Fault) → brokenOr w f ≡ Sound → (w ≡ End) × (f ≡ Sound)
 unfolding brokenOr
@@ -137,7 +75,7 @@ kind-sound n c h = byTest (ltb c n) refl h where
   byTest false e g = ltb-false c n e
 
 fault-sound : (s : List ℕ) → faultOf s ≡ Sound → (lengthFits s ≡ true) × (formFault s ≡ Sound)
-unfolding faultOf
+unfolding faultOf lengthOr
 fault-sound s h = byTest (lengthFits s) h where
   byTest : (t : Bool) → cond t (formFault s) Length ≡ Sound → (t ≡ true) × (formFault s ≡ Sound)
   byTest true g = (refl, g)
@@ -147,20 +85,8 @@ or-false : (a b : Bool) → (a || b) ≡ false → (a ≡ false) × (b ≡ false
 or-false true b h = absurd (let z : _≡_ {A = ℕ} 0 1 = cc in omega arith)
 or-false false b h = (refl, h)
 
-proper-nil : (s : List ℕ) → Proper s []
-unfolding Proper count
-proper-nil s c = omega arith
-
 inside-below : (n c : ℕ) → 0 < inside n c → c < n
 inside-below n c h = elim (decLt c n) [ yes p ↦ p | no q ↦ absurd (omega (arith, inside-past n c (omega arith))) ]
-
-in-yes : (c : ℕ) (l : List ℕ) → In c l → isIn c l ≡ true
-unfolding isIn
-in-yes c l h = rw (ne-eqb (count c l) 0 (λ e. omega arith))
-
-in-no : (c : ℕ) (l : List ℕ) → count c l ≡ 0 → isIn c l ≡ false
-unfolding isIn
-in-no c l h = rw (eq-eqb (count c l) 0 h)
 
 module _ (s : List ℕ) (h : faultOf s ≡ Sound) where
   ends : (salesWalk s .0 ≡ End) × ((freeWalk s .0 ≡ End) × (cells s ≤ firstFrom (unfit s (salesWalk s .1) (freeWalk s .1)) 1 (cells s - 1)))
@@ -275,31 +201,10 @@ module _ (s cs fs : List ℕ) (f : Form s cs fs) where
       rw (kind-fits c l z, in-yes c (cs ++ fs) (omega (arith, count-append c cs fs, rw (ne-eqb c 0 z) at e)))
 
   pub form-sound : faultOf s ≡ Sound
-  unfolding faultOf formFault brokenOr kindFault
+  unfolding faultOf lengthOr formFault brokenOr kindFault
   form-sound =
       rw (of-long s (f .size), sales-walk, free-walk, le-ltb (firstFrom (unfit s cs (cs ++ fs)) 1 (cells s - 1)) (cells s) (omega (arith, all-first (unfit s cs (cs ++ fs)) 1 (cells s - 1) all-fit)))
 
 -- a store has no fault exactly where its form is as said
 pub formed-sound : (s : List ℕ) → formed s ≡ true → faultOf s ≡ Sound
 formed-sound s e = form-sound s _ _ (form-of s e)
-
--- ---- the check by the first fault
-
-pub check-sound : (s : List ℕ) (f : Fault) → f ≡ faultOf s → f ≡ Sound → Clear ≡ line (not (formed s)) StoreForm Clear
-unfolding line lineAt
-check-sound s f e q = rw (sound-formed s (sym e ∙ q))
-
--- another fault than none
-abbrev pub isFault : Fault → Bool
-isFault Sound = false
-isFault Length = true
-isFault (Index c) = true
-isFault (Kind c) = true
-
-pub check-fault : (s : List ℕ) (f : Fault) → f ≡ faultOf s → isFault f ≡ true → Fails StoreForm 0 ≡ line (not (formed s)) StoreForm Clear
-unfolding line lineAt
-check-fault s f e q = go (formed s) refl
-  where
-    go : (t : Bool) → formed s ≡ t → Fails StoreForm 0 ≡ line (not t) StoreForm Clear
-    go true h = absurd (false≢true (sym (ap isFault (e ∙ formed-sound s h)) ∙ q))
-    go false h = refl

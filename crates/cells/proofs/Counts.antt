@@ -6,10 +6,10 @@ use Prim.Native.Nat.{ℕ, zero, suc, _+_, _-_, _≤_, _<_}
 use native.Mathlib.Nat.{add-assoc, add-zero}
 use native.Mathlib.Numerals.{add-one}
 use native.Mathlib.Omega.{arith}
-use native.Mathlib.Decide.{ℕ-discrete}
+use native.Mathlib.Decide.{decLt, ℕ-discrete}
 use lib.Dec.{eqb}
-use Rattle.cells.specs.Chains.{count}
-use Rattle.chains.specs.Faults.{firstFrom}
+use borrow.Author.Tests.{eq-eqb, ne-eqb}
+use Rattle.cells.specs.Chains.{count, isIn, firstFrom}
 
 pub count-append : (c : ℕ) (l m : List ℕ) → count c (l ++ m) ≡ count c l + count c m
 unfolding count
@@ -88,3 +88,18 @@ first-skip p c (suc k) e l h =
     let a : c + 1 + k ≡ c + suc k = omega arith in
     first-on p c e (omega arith) (h c (omega arith) (omega arith))
     ∙ first-skip p (c + 1) k e (omega arith) (λ i a b. h i (omega arith) (omega arith)) ∙ ap (λ (n : ℕ). firstFrom p n (e - n)) a
+
+-- what is found: the test holds there, and nowhere before
+pub first-is : (p : ℕ → Bool) (k n : ℕ) → 1 ≤ k → k ≤ n → ((i : ℕ) → 1 ≤ i → i < k → p i ≡ false) → (k < n → p k ≡ true) → firstFrom p 1 (n - 1) ≡ k
+first-is p k n a b before here =
+    let e : 1 + (k - 1) ≡ k = omega arith in
+    first-skip p 1 (k - 1) n (omega arith) (λ i c d. before i c (omega arith)) ∙ ap (λ (j : ℕ). firstFrom p j (n - j)) e ∙ elim (decLt k n) [ yes l ↦ first-here p k n l (here l) | no q ↦ first-none p k n (omega arith) ]
+
+-- a cell of the list, and one that is not
+pub in-yes : (c : ℕ) (l : List ℕ) → 0 < count c l → isIn c l ≡ true
+unfolding isIn
+in-yes c l h = rw (ne-eqb (count c l) 0 (λ e. omega arith))
+
+pub in-no : (c : ℕ) (l : List ℕ) → count c l ≡ 0 → isIn c l ≡ false
+unfolding isIn
+in-no c l h = rw (eq-eqb (count c l) 0 h)
