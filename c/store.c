@@ -133,10 +133,12 @@ static size_t first_missing(const uint64_t marks[MAX_CELLS / 64], size_t limit)
  */
 static uint64_t first_fault(const uint8_t *store, size_t cells)
 {
-    uint64_t marks[MAX_CELLS / 64] = {1};
+    uint64_t marks[MAX_CELLS / 64];
     size_t left = cells - 1, misfit = cells;
     uint64_t fault;
 
+    memset(marks, 0, (cells + 63) / 64 * sizeof *marks);
+    marks[0] = 1;
     fault = follow(store, cells, get16(store + NEXT), SALE, marks, &left, &misfit);
     if (fault == 0)
         fault = follow(store, cells, get16(store + FIRST_FREE), FREE, marks, &left, &misfit);
