@@ -93,7 +93,7 @@ const DAMAGED: [&str; 7] = [
 
 /// All bounds, a line each.
 #[rustfmt::skip]
-pub static BOUNDS: [Bound; 17] = [
+pub static BOUNDS: [Bound; 18] = [
     of(Library, &[SEAL, OPEN]).by(By::Who(ScalarC), 1.15),
     of(Library, &[OPEN, OPEN_REFUSED]).by(By::Calls(&[SEAL]), 1.10),
     of(Library, &[OPEN_OLD]).by(By::Calls(&[OPEN]), 1.05),
@@ -113,7 +113,9 @@ pub static BOUNDS: [Bound; 17] = [
     store(&[SHORT_RING], "store read of a short ring").by(By::Calls(&[LONG_RING]), 1.00),
     // Of reads alone, which are the check and little else: a quicker sealing would count as growth.
     store(&[READ], "store read").with(&LARGEST).by(By::Growth(&QUICKEST), 1.10),
-    store(&DAMAGED, "store read, damaged").with(&LARGEST).by(By::Growth(&QUICKEST), 1.10),
+    store(&DAMAGED, "store read, damaged, in order").with(&[Cells(1024)]).by(By::Growth(&QUICKEST), 1.10),
+    // Small ones the library reads in 0.9 of the C's time; large shuffled ones make both wait for the second cache.
+    store(&DAMAGED, "store read, damaged, shuffled").with(&[Shuffled(1024)]).by(By::Growth(&QUICKEST), 1.20),
 ];
 
 /// Calls of an implementation with all settings and the longest messages.
