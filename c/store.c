@@ -6,6 +6,11 @@
 
 #include <string.h>
 
+/* 1 for the version that looks at every store by marks, which the benchmarks compare too. */
+#ifndef MARKS_ALONE
+#define MARKS_ALONE 0
+#endif
+
 enum { CELL = 64, MIN_STORE = 128, MAX_STORE = 65536, MAX_CELLS = MAX_STORE / CELL };
 
 /* Where the parts of a cell begin. Cell 0's first sale stands where the others have their next index. */
@@ -87,11 +92,12 @@ static int is_sound(const uint8_t *store, size_t cells)
 }
 
 /*
- * Marks the cells of the chain from an index of cell 0 on, and keeps the smallest whose kind does not
- * fit. Refuses with the cell that held an index past the last cell or of a marked cell.
+ * Marks the cells of the chain from an index of cell 0 on, counts them down, and keeps the smallest
+ * whose kind does not fit. Refuses with the cell that held an index past the last cell or of a marked
+ * cell.
  */
 static uint64_t follow(const uint8_t *store, size_t cells, size_t index, uint8_t kind,
-                       uint64_t marks[MAX_CELLS / 64], size_t *misfit)
+                       uint64_t marks[MAX_CELLS / 64], size_t *left, size_t *misfit)
 {
     size_t holder = 0;
 
@@ -100,6 +106,7 @@ static uint64_t follow(const uint8_t *store, size_t cells, size_t index, uint8_t
         if (index >= cells || (marks[index / 64] & mark) != 0)
             return refuse(19, holder);
         marks[index / 64] |= mark;
+        *left -= 1;
         if (store[CELL * index + KIND] != kind && index < *misfit)
             *misfit = index;
         holder = index;
@@ -127,14 +134,16 @@ static size_t first_missing(const uint64_t marks[MAX_CELLS / 64], size_t limit)
 static uint64_t first_fault(const uint8_t *store, size_t cells)
 {
     uint64_t marks[MAX_CELLS / 64] = {1};
-    size_t misfit = cells;
-    uint64_t fault = follow(store, cells, get16(store + NEXT), SALE, marks, &misfit);
+    size_t left = cells - 1, misfit = cells;
+    uint64_t fault;
 
+    fault = follow(store, cells, get16(store + NEXT), SALE, marks, &left, &misfit);
     if (fault == 0)
-        fault = follow(store, cells, get16(store + FIRST_FREE), FREE, marks, &misfit);
+        fault = follow(store, cells, get16(store + FIRST_FREE), FREE, marks, &left, &misfit);
     if (fault != 0)
         return fault;
-    misfit = first_missing(marks, misfit);
+    if (left != 0)
+        misfit = first_missing(marks, misfit);
     return misfit < cells ? refuse(20, misfit) : 0;
 }
 
@@ -143,7 +152,7 @@ static uint64_t check_form(const uint8_t *store, size_t len)
 {
     if (!allowed_length(len))
         return refuse(18, 0);
-    if (is_sound(store, len / CELL))
+    if (!MARKS_ALONE && is_sound(store, len / CELL))
         return 0;
     return first_fault(store, len / CELL);
 }
