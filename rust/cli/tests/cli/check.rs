@@ -7,8 +7,11 @@ use crate::{fails, folder, run};
 use calmbaize::{Ground, Refusal, Store};
 use std::fs;
 
-/// Two heads, and the other cells by their next index and kind. Every body is zero.
-fn store(heads: [u16; 2], cells: &[(u16, u8)]) -> Vec<u8> {
+/// The next index and the kind of a cell.
+type Cell = (u16, u8);
+
+/// Two heads, and the other cells. Every body is zero.
+fn store(heads: [u16; 2], cells: &[Cell]) -> Vec<u8> {
     let mut bytes = vec![0; 64 * (cells.len() + 1)];
     bytes[..2].copy_from_slice(&heads[0].to_le_bytes());
     bytes[2..4].copy_from_slice(&heads[1].to_le_bytes());
@@ -44,7 +47,7 @@ fn a_store_that_is_right() {
 
 /// Stores of four cells, and what is said of them. Right would be [1, 2] and (0, 1), (3, 0), (0, 0).
 #[rustfmt::skip]
-const BROKEN: [([u16; 2], [(u16, u8); 3], &str); 12] = [
+const BROKEN: [([u16; 2], [Cell; 3], &str); 12] = [
     ([4, 2], [(0, 1), (3, 0), (0, 0)],
      "19: the first sale's index in cell 0 (bytes 0 and 1) is 4, and the last cell is 3"),
     ([1, 513], [(0, 1), (3, 0), (0, 0)],
@@ -168,7 +171,7 @@ fn the_words_agree_with_number_and_cell() {
 }
 
 /// The cells of a chain that ends.
-fn reached(head: u16, cells: &[(u16, u8)]) -> Vec<usize> {
+fn reached(head: u16, cells: &[Cell]) -> Vec<usize> {
     let mut chain = Vec::new();
     let mut next = usize::from(head);
     while next != 0 {
