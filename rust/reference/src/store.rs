@@ -2,7 +2,6 @@
 //! and the bytes are made from them again.
 
 use crate::{check, key_ground, Refusal, MRO, NONCE_LEN, TAG_LEN};
-use std::collections::BTreeSet;
 use std::iter::{once, successors};
 use std::ops::RangeInclusive;
 
@@ -263,8 +262,14 @@ impl<'a> Cells<'a> {
         let pairs = |(kind, steps): (u8, &[Step])| -> Vec<(usize, u8)> {
             steps.iter().map(|&(_, index)| (index, kind)).collect()
         };
-        let reached: BTreeSet<(usize, u8)> = walks.into_iter().flat_map(pairs).collect();
-        (1..self.0.len()).find(|&number| !reached.contains(&(number, self.0[number].kind)))
+        let mut reached: Vec<(usize, u8)> = walks.into_iter().flat_map(pairs).collect();
+        reached.sort_unstable();
+        let fits = |number: usize| {
+            reached
+                .binary_search(&(number, self.0[number].kind))
+                .is_ok()
+        };
+        (1..self.0.len()).find(|&number| !fits(number))
     }
 
     fn list(&self, walk: Vec<Step>) -> Vec<Cell> {
