@@ -20,8 +20,8 @@ the length stays wrong, put in another memory card, not another unit.
 
 /// What to do about a wrong cell.
 const KEEP: &str = "\
-Keep this file as it is for the route office, and don't format it: its sales are
-still in it, sealed. Put in another memory card, not another unit.
+Keep this file as it is for the route office, and don't format it: the sales in
+it are still there, sealed. Put in another memory card, not another unit.
 ";
 
 /// What a store is refused for, its wrong cell, and what to do. None where the ground is no fault of
@@ -29,13 +29,14 @@ still in it, sealed. Put in another memory card, not another unit.
 pub fn report(bytes: &[u8], refusal: Refusal) -> Option<String> {
     let number = refusal.place as usize;
     let (what, shown, to_do) = match refusal.ground {
+        // There may be no cell to show.
         Ground::StoreLength => (wrong_length(bytes, refusal), String::new(), COPY_AGAIN),
         Ground::StoreIndex => (wrong_index(bytes, number)?, dump(bytes, number)?, KEEP),
         Ground::StoreKind => (wrong_kind(bytes, number)?, dump(bytes, number)?, KEEP),
         _ => return None,
     };
     let refused = refusal.number();
-    Some(format!("refused with {refused}: {what}\n{shown}{to_do}"))
+    Some(format!("refused with {refused}: {what}\n\n{shown}{to_do}"))
 }
 
 /// Of a longer file no more was read than is enough to be refused.
@@ -102,5 +103,5 @@ fn dump(bytes: &[u8], number: usize) -> Option<String> {
         format!("{:4} {digits}\n", WIDTH * n)
     };
     let lines = cell(bytes, number)?.chunks(WIDTH).enumerate().map(line);
-    Some(format!("\ncell {number}:\n{}\n", lines.collect::<String>()))
+    Some(format!("cell {number}:\n{}\n", lines.collect::<String>()))
 }

@@ -99,8 +99,8 @@ cell 3:
   32  20 21 22 23 24 25 26 27 28 29 2a 2b 2c 2d 2e 2f
   48  30 31 32 33 34 35 36 37 38 39 3a 3b 3c 3d 3e 3f
 
-Keep this file as it is for the route office, and don't format it: its sales are
-still in it, sealed. Put in another memory card, not another unit.
+Keep this file as it is for the route office, and don't format it: the sales in
+it are still there, sealed. Put in another memory card, not another unit.
 ";
     assert_eq!(check("report", &bytes), (report.into(), Some(1)));
 }
@@ -110,13 +110,16 @@ fn lengths() {
     let is_not = "refused with 18: store is not 128 to 65,536 bytes in cells of 64; the file has";
     for len in [0, 63, 64, 127, 129, 200, 65_535] {
         let (text, status) = check("lengths", &vec![0; len]);
-        let first = format!("{is_not} {len} bytes\nCopy the store from the machine again ");
+        let first = format!("{is_not} {len} bytes\n\nCopy the store from the machine again ");
         assert!(text.starts_with(&first), "{text}");
         assert_eq!(status, Some(1));
     }
     for len in [65_537, 65_600, 200_000] {
         let (text, status) = check("lengths", &vec![0; len]);
-        assert!(text.starts_with(&format!("{is_not} more\nCopy ")), "{text}");
+        assert!(
+            text.starts_with(&format!("{is_not} more\n\nCopy ")),
+            "{text}"
+        );
         assert_eq!(status, Some(1));
     }
 }
