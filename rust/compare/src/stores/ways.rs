@@ -202,7 +202,7 @@ fn exchange(store: &mut Sound, one: Spot, other: Spot) {
     set_index(&mut store.bytes, offsets[1], to);
 }
 
-/// Both kinds, and some that are none.
+/// A kind of the other chain, or of neither.
 fn misfit(prng: &mut Prng, store: &mut Sound, chain: usize) -> Option<Effect> {
     let cell = any_of(prng, &store.chains[chain])?;
     let other = [0, 1][chain];
