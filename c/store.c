@@ -6,6 +6,11 @@
 
 #include <string.h>
 
+/* 1 for the version that looks at every store by marks, which the benchmarks compare too. */
+#ifndef MARKS_ALONE
+#define MARKS_ALONE 0
+#endif
+
 enum { CELL = 64, MIN_STORE = 128, MAX_STORE = 65536, MAX_CELLS = MAX_STORE / CELL };
 
 /* Where the parts of a cell begin. Cell 0's first sale stands where the others have their next index. */
@@ -47,64 +52,109 @@ static int allowed_length(size_t len)
     return len >= MIN_STORE && len <= MAX_STORE && len % CELL == 0;
 }
 
-/*
- * Copies the next indices in the order of the cells. A walk reads one for each step, and then waits
- * for the table only, which is a thirty-second of the store.
- */
-static void load_nexts(const uint8_t *store, size_t cells, uint16_t nexts[MAX_CELLS])
+/* Whether the rest of a chain, from an index on, has exactly so many cells, all of the kind. */
+static int is_rest(const uint8_t *store, size_t cells, size_t index, uint8_t kind, size_t left)
 {
-    for (size_t i = 0; i < cells; i++)
-        nexts[i] = (uint16_t)get16(store + CELL * i + NEXT);
+    while (index != 0) {
+        if (index >= cells || left == 0)
+            return 0;
+        if (store[CELL * index + KIND] != kind)
+            return 0;
+        left--;
+        index = get16(store + CELL * index + NEXT);
+    }
+    return left == 0;
 }
 
 /*
- * Marks the cells of the chain from an index on and counts them. Where the index of one is past the
- * last cell or one is reached twice, the count is higher than it can be.
+ * Whether the store is formed, seen without marks: a chain that ends has no cell twice, chains of two
+ * kinds have no cell in common, and as many cells as there are are all of them. The chains are walked
+ * side by side, since a step in one need not wait for the other's.
  */
-static size_t follow(size_t cells, const uint16_t nexts[MAX_CELLS], uint32_t index,
-                     uint64_t marks[MAX_CELLS / 64])
+static int is_sound(const uint8_t *store, size_t cells)
 {
-    size_t count = 0;
+    size_t sale = get16(store + NEXT);
+    size_t other = get16(store + FIRST_FREE);
+    size_t left = cells - 1;
+
+    while (sale != 0 && other != 0) {
+        if (sale >= cells || other >= cells || left < 2)
+            return 0;
+        if (store[CELL * sale + KIND] != SALE || store[CELL * other + KIND] != FREE)
+            return 0;
+        left -= 2;
+        sale = get16(store + CELL * sale + NEXT);
+        other = get16(store + CELL * other + NEXT);
+    }
+    if (sale != 0)
+        return is_rest(store, cells, sale, SALE, left);
+    return is_rest(store, cells, other, FREE, left);
+}
+
+/*
+ * Marks the cells of the chain from an index of cell 0 on, counts them down, and keeps the smallest
+ * whose kind does not fit. Refuses with the cell that held an index past the last cell or of a marked
+ * cell.
+ */
+static uint64_t follow(const uint8_t *store, size_t cells, size_t index, uint8_t kind,
+                       uint64_t marks[MAX_CELLS / 64], size_t *left, size_t *misfit)
+{
+    size_t holder = 0;
 
     while (index != 0) {
         uint64_t mark = (uint64_t)1 << index % 64;
         if (index >= cells || (marks[index / 64] & mark) != 0)
-            return cells;
+            return refuse(19, holder);
         marks[index / 64] |= mark;
-        count++;
-        index = nexts[index];
+        *left -= 1;
+        if (store[CELL * index + KIND] != kind && index < *misfit)
+            *misfit = index;
+        holder = index;
+        index = get16(store + CELL * index + NEXT);
     }
-    return count;
+    return 0;
 }
 
-/* The first cell whose kind does not fit: SALE where it is marked, else FREE. */
-static size_t first_misfit(const uint8_t *store, size_t cells, const uint64_t marks[MAX_CELLS / 64])
+/* The first cell that is not marked, where it is below the limit, else the limit. */
+static size_t first_missing(const uint64_t marks[MAX_CELLS / 64], size_t limit)
 {
-    for (size_t i = 1; i < cells; i++) {
-        uint8_t kind = (marks[i / 64] >> i % 64 & 1) != 0 ? SALE : FREE;
-        if (store[CELL * i + KIND] != kind)
-            return i;
-    }
-    return cells;
+    size_t cell = 0;
+
+    while (cell < limit && marks[cell / 64] == UINT64_MAX)
+        cell += 64;
+    while (cell < limit && (marks[cell / 64] >> cell % 64 & 1) != 0)
+        cell++;
+    return cell < limit ? cell : limit;
 }
 
 /*
- * Both chains together have every cell but cell 0 exactly once, and each kind fits. As in the library
- * the kinds are looked at in the cells' order, between the walks, when the marks are the sales.
+ * The refusal of the store's first fault by marks, or 0. Kinds count only where both walks end. Cell 0
+ * is marked from the beginning, since it is in no chain and never missing.
  */
-static int well_formed(const uint8_t *store, size_t len)
+static uint64_t first_fault(const uint8_t *store, size_t cells)
 {
-    uint16_t nexts[MAX_CELLS] = {0};
-    uint64_t marks[MAX_CELLS / 64] = {0};
-    size_t cells = len / CELL, sales, misfit, others;
+    uint64_t marks[MAX_CELLS / 64] = {1};
+    size_t left = cells - 1, misfit = cells;
+    uint64_t fault;
 
+    fault = follow(store, cells, get16(store + NEXT), SALE, marks, &left, &misfit);
+    if (fault == 0)
+        fault = follow(store, cells, get16(store + FIRST_FREE), FREE, marks, &left, &misfit);
+    if (fault != 0)
+        return fault;
+    if (left != 0)
+        misfit = first_missing(marks, misfit);
+    return misfit < cells ? refuse(20, misfit) : 0;
+}
+
+/* The refusal of the store's form, or 0. */
+static uint64_t check_form(const uint8_t *store, size_t len)
+{
     if (!allowed_length(len))
+        return refuse(18, 0);
+    if (!MARKS_ALONE && is_sound(store, len / CELL))
         return 0;
-    load_nexts(store, cells, nexts);
-    sales = follow(cells, nexts, get16(store + NEXT), marks);
-    misfit = first_misfit(store, cells, marks);
-    others = follow(cells, nexts, get16(store + FIRST_FREE), marks);
-    return misfit == cells && sales + others == cells - 1;
+    return first_fault(store, len / CELL);
 }
 
 /* The cell of the first sale in the chain with these numbers, or 0; before is the cell before it. */
@@ -152,7 +202,7 @@ static uint64_t coin_amount(const uint8_t record[RECORD])
 uint64_t baseline_store_format(uint8_t *store, size_t store_len)
 {
     if (!allowed_length(store_len))
-        return refuse(14, 0);
+        return refuse(18, 0);
 
     memset(store, 0, store_len);
     put16(store + FIRST_FREE, 1);
@@ -168,11 +218,13 @@ uint64_t baseline_store_take(const uint8_t *key, size_t key_len, uint8_t *store,
 {
     uint8_t record[RECORD], *cell;
     uint32_t index, before;
+    uint64_t fault;
 
     if (key_len != KEY)
         return refuse(3, 0);
-    if (!well_formed(store, store_len))
-        return refuse(14, 0);
+    fault = check_form(store, store_len);
+    if (fault != 0)
+        return fault;
     if (find(store, machine, sale, &before) != 0)
         return refuse(16, 0);
     index = get16(store + FIRST_FREE);
@@ -200,11 +252,13 @@ uint64_t baseline_store_cancel(const uint8_t *key, size_t key_len, uint8_t *stor
 {
     uint8_t record[RECORD], *cell;
     uint32_t index, before;
+    uint64_t fault;
 
     if (key_len != KEY)
         return refuse(3, 0);
-    if (!well_formed(store, store_len))
-        return refuse(14, 0);
+    fault = check_form(store, store_len);
+    if (fault != 0)
+        return fault;
     index = find(store, machine, sale, &before);
     if (index == 0)
         return refuse(16, 0);
@@ -223,13 +277,14 @@ uint64_t baseline_store_total(const uint8_t *key, size_t key_len, const uint8_t 
                               size_t store_len, uint64_t *total)
 {
     uint8_t record[RECORD];
-    uint64_t sum = 0;
+    uint64_t fault, sum = 0;
     uint32_t index;
 
     if (key_len != KEY)
         return refuse(3, 0);
-    if (!well_formed(store, store_len))
-        return refuse(14, 0);
+    fault = check_form(store, store_len);
+    if (fault != 0)
+        return fault;
     for (index = get16(store + NEXT); index != 0; index = get16(store + CELL * index + NEXT)) {
         if (!open_sale(key, store + CELL * index, record))
             return refuse(9, index);
@@ -244,9 +299,11 @@ uint64_t baseline_store_read(const uint8_t *store, size_t store_len, uint32_t ma
                              uint32_t sale)
 {
     uint32_t index, before;
+    uint64_t fault;
 
-    if (!well_formed(store, store_len))
-        return refuse(14, 0);
+    fault = check_form(store, store_len);
+    if (fault != 0)
+        return fault;
     index = find(store, machine, sale, &before);
     if (index == 0)
         return refuse(16, 0);

@@ -94,14 +94,6 @@ sealing! {
     /// `calmbaize_open_run`. The processor must have AVX2.
     #[cfg(target_arch = "x86_64")]
     pub fn avx2_opp_open_run(words: *mut u64, words_len: usize);
-
-    // The two by clang: `avx2_by_clang` hands them out.
-
-    #[cfg(clang)]
-    fn avx2_clang_opp_seal_run(words: *mut u64, words_len: usize);
-
-    #[cfg(clang)]
-    fn avx2_clang_opp_open_run(words: *mut u64, words_len: usize);
 }
 
 extern "C" {
@@ -129,55 +121,144 @@ extern "C" {
     /// Formats a store; the arguments are those of `calmbaize_store_format`.
     pub fn baseline_store_format(store: *mut u8, store_len: usize) -> u64;
 
-    /// Takes a sale; the arguments are those of `calmbaize_store_take`.
-    pub fn baseline_store_take(
-        key: *const u8,
-        key_len: usize,
-        store: *mut u8,
-        store_len: usize,
-        machine: u32,
-        sale: u32,
-        nonce_tail: *const u8,
-        amount: u32,
-        column: u16,
-        means: u8,
-        clock: *const u8,
-    ) -> u64;
-
-    /// Cancels a sale; the arguments are those of `calmbaize_store_cancel`.
-    pub fn baseline_store_cancel(
-        key: *const u8,
-        key_len: usize,
-        store: *mut u8,
-        store_len: usize,
-        machine: u32,
-        sale: u32,
-    ) -> u64;
-
-    /// Adds up the coins; the arguments are those of `calmbaize_store_total`.
-    pub fn baseline_store_total(
-        key: *const u8,
-        key_len: usize,
-        store: *const u8,
-        store_len: usize,
-        total: *mut u64,
-    ) -> u64;
-
-    /// Finds a sale; the arguments are those of `calmbaize_store_read`.
-    pub fn baseline_store_read(store: *const u8, store_len: usize, machine: u32, sale: u32) -> u64;
-
     /// The BLAKE2b permutation, any number of rounds.
     pub fn baseline_permute(rounds: u32, s: *mut [u64; 16]);
 }
 
-/// `avx2_opp_seal_run` and `avx2_opp_open_run` as clang compiles them, where there is a clang.
-#[cfg(clang)]
-pub fn avx2_by_clang() -> Option<(RunSealing, RunSealing)> {
-    Some((avx2_clang_opp_seal_run, avx2_clang_opp_open_run))
+/// The type of take: key, store, machine, sale, the nonce's tail, amount, column, means and clock.
+pub type Take = unsafe extern "C" fn(
+    *const u8,
+    usize,
+    *mut u8,
+    usize,
+    u32,
+    u32,
+    *const u8,
+    u32,
+    u16,
+    u8,
+    *const u8,
+) -> u64;
+
+/// The type of cancel: key, store, machine and sale.
+pub type Cancel = unsafe extern "C" fn(*const u8, usize, *mut u8, usize, u32, u32) -> u64;
+
+/// The type of total: key, store and total.
+pub type Total = unsafe extern "C" fn(*const u8, usize, *const u8, usize, *mut u64) -> u64;
+
+/// The type of read: store, machine and sale.
+pub type Read = unsafe extern "C" fn(*const u8, usize, u32, u32) -> u64;
+
+/// The calls on a filled store, as someone has them.
+#[derive(Clone, Copy)]
+#[allow(missing_docs)]
+pub struct Store {
+    pub take: Take,
+    pub cancel: Cancel,
+    pub total: Total,
+    pub read: Read,
 }
 
-/// `avx2_opp_seal_run` and `avx2_opp_open_run` as clang compiles them: there is no clang.
-#[cfg(not(clang))]
+/// Declares the calls on a filled store of one build, and puts them together.
+macro_rules! store {
+    ($(#[$note:meta])* $scope:vis const $build:ident = $take:ident $cancel:ident $total:ident $read:ident) => {
+        extern "C" {
+            /// Takes a sale; the arguments are those of `calmbaize_store_take`.
+            $scope fn $take(
+                key: *const u8,
+                key_len: usize,
+                store: *mut u8,
+                store_len: usize,
+                machine: u32,
+                sale: u32,
+                nonce_tail: *const u8,
+                amount: u32,
+                column: u16,
+                means: u8,
+                clock: *const u8,
+            ) -> u64;
+
+            /// Cancels a sale; the arguments are those of `calmbaize_store_cancel`.
+            $scope fn $cancel(
+                key: *const u8,
+                key_len: usize,
+                store: *mut u8,
+                store_len: usize,
+                machine: u32,
+                sale: u32,
+            ) -> u64;
+
+            /// Adds up the coins; the arguments are those of `calmbaize_store_total`.
+            $scope fn $total(
+                key: *const u8,
+                key_len: usize,
+                store: *const u8,
+                store_len: usize,
+                total: *mut u64,
+            ) -> u64;
+
+            /// Finds a sale; the arguments are those of `calmbaize_store_read`.
+            $scope fn $read(store: *const u8, store_len: usize, machine: u32, sale: u32) -> u64;
+        }
+
+        $(#[$note])*
+        $scope const $build: Store = Store {
+            take: $take,
+            cancel: $cancel,
+            total: $total,
+            read: $read,
+        };
+    };
+}
+
+store! {
+    /// The store's calls, which see a sound store without marks.
+    pub const STORE = baseline_store_take baseline_store_cancel
+        baseline_store_total baseline_store_read
+}
+
+store! {
+    /// Those that look at every store by marks.
+    pub const BY_MARKS = marks_baseline_store_take marks_baseline_store_cancel
+        marks_baseline_store_total marks_baseline_store_read
+}
+
+/// What clang compiles, where there is one.
+#[cfg(clang)]
+mod clang {
+    use super::Store;
+
+    store! {
+        pub(super) const STORE = clang_baseline_store_take clang_baseline_store_cancel
+            clang_baseline_store_total clang_baseline_store_read
+    }
+
+    store! {
+        pub(super) const BY_MARKS = clang_marks_baseline_store_take clang_marks_baseline_store_cancel
+            clang_marks_baseline_store_total clang_marks_baseline_store_read
+    }
+
+    sealing! {
+        pub(super) fn clang_avx2_opp_seal_run(words: *mut u64, words_len: usize);
+        pub(super) fn clang_avx2_opp_open_run(words: *mut u64, words_len: usize);
+    }
+}
+
+/// `avx2_opp_seal_run` and `avx2_opp_open_run` as clang compiles them, where there is a clang.
 pub fn avx2_by_clang() -> Option<(RunSealing, RunSealing)> {
+    #[cfg(clang)]
+    return Some((
+        clang::clang_avx2_opp_seal_run,
+        clang::clang_avx2_opp_open_run,
+    ));
+    #[cfg(not(clang))]
+    None
+}
+
+/// [`STORE`] and [`BY_MARKS`] as clang compiles them, where there is a clang.
+pub fn stores_by_clang() -> Option<[Store; 2]> {
+    #[cfg(clang)]
+    return Some([clang::STORE, clang::BY_MARKS]);
+    #[cfg(not(clang))]
     None
 }

@@ -35,6 +35,12 @@ pub enum Implementation {
     Avx2C,
     /// The same source, by clang.
     Avx2Clang,
+    /// The store's calls alone, by clang.
+    ScalarClang,
+    /// The store's calls alone, which look at every store by marks.
+    MarksC,
+    /// The same source, by clang.
+    MarksClang,
     Reference,
     XChaCha,
     AesGcm,
@@ -55,6 +61,11 @@ impl Implementation {
         )
     }
 
+    /// Whether only clang makes it.
+    pub fn needs_clang(self) -> bool {
+        matches!(self, Self::Avx2Clang | Self::ScalarClang | Self::MarksClang)
+    }
+
     /// Whether it is a cipher of its own, which has no mode and no rounds.
     pub fn is_cipher(self) -> bool {
         matches!(self, Self::XChaCha | Self::AesGcm)
@@ -71,6 +82,9 @@ impl Implementation {
             Self::ScalarCRun => ["scalar C", "", "run"],
             Self::Avx2C => ["AVX2 C", "", ""],
             Self::Avx2Clang => ["AVX2 C by clang", "", ""],
+            Self::ScalarClang => ["scalar C by clang", "", ""],
+            Self::MarksC => ["C by marks", "", ""],
+            Self::MarksClang => ["C by marks by clang", "", ""],
             Self::Reference => ["second implementation", "", ""],
             Self::XChaCha => ["XChaCha20-Poly1305", "", ""],
             Self::AesGcm => ["AES-256-GCM", "", ""],
@@ -111,7 +125,10 @@ pub fn setting_name((mode, rounds): (u32, u32)) -> String {
 #[derive(Clone, Copy, Debug, PartialEq, Eq)]
 pub enum Size {
     Bytes(usize),
+    /// Taken upwards from cell 1.
     Cells(usize),
+    /// Taken in a fixed order that is none.
+    Shuffled(usize),
 }
 
 impl Size {
@@ -119,7 +136,15 @@ impl Size {
     pub fn bytes(self) -> usize {
         match self {
             Self::Bytes(bytes) => bytes,
-            Self::Cells(cells) => cells * stores::CELL,
+            Self::Cells(cells) | Self::Shuffled(cells) => cells * stores::CELL,
+        }
+    }
+
+    /// A store of so many cells in the same order.
+    pub fn with_cells(self, cells: usize) -> Self {
+        match self {
+            Self::Shuffled(_) => Self::Shuffled(cells),
+            _ => Self::Cells(cells),
         }
     }
 }
@@ -129,6 +154,7 @@ impl fmt::Display for Size {
         match self {
             Self::Bytes(bytes) => write!(f, "{} bytes", grouped(*bytes)),
             Self::Cells(cells) => write!(f, "{} cells", grouped(*cells)),
+            Self::Shuffled(cells) => write!(f, "{} cells shuffled", grouped(*cells)),
         }
     }
 }

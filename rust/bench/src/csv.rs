@@ -1,6 +1,6 @@
 //! All that was measured, one row each.
 
-use crate::cases::{mode_name, Key};
+use crate::cases::{mode_name, Key, Size};
 use crate::measure::Samples;
 use crate::ratios::Ratio;
 use crate::setup::Setup;
@@ -41,14 +41,18 @@ fn ratio(ratio: &Ratio) -> String {
     format!("ratio,{names},,,,{by},{measured},{taken},{bound:.3},{aim},\n")
 }
 
-/// Call, library, archive, engine, mode, rounds and bytes.
+/// Call with the order of a store, library, archive, engine, mode, rounds and bytes.
 fn names(key: Key) -> String {
     let [library, archive, engine] = key.implementation.parts();
     let (mode, rounds) = key.setting.map_or(Default::default(), |(mode, rounds)| {
         (mode_name(mode), rounds.to_string())
     });
+    let order = match key.size {
+        Size::Shuffled(_) => " shuffled",
+        _ => "",
+    };
     format!(
-        "{},{library},{archive},{engine},{mode},{rounds},{}",
+        "{}{order},{library},{archive},{engine},{mode},{rounds},{}",
         key.call,
         key.size.bytes()
     )

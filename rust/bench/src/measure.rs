@@ -78,15 +78,43 @@ impl Samples {
         self.of(key).map(|samples| median(samples.to_vec()))
     }
 
+    /// That of the cases which takes the least time, by the medians; nothing where one was not timed.
+    pub fn quickest(&self, keys: &[Key]) -> Option<Key> {
+        let times = keys.iter().map(|&key| Some((self.cycles(key)?, key)));
+        let times: Vec<(f64, Key)> = times.collect::<Option<_>>()?;
+        let least = times
+            .into_iter()
+            .min_by(|one, other| one.0.total_cmp(&other.0));
+        least.map(|(_, key)| key)
+    }
+
     /// The median, over the batches, of one case's time by the sum of others'. One that is named
     /// twice counts twice.
     pub fn ratio(&self, key: Key, by: &[Key]) -> Option<f64> {
-        let by: Vec<&[f64]> = by.iter().map(|&key| self.of(key)).collect::<Option<_>>()?;
-        let sum = |batch: usize| by.iter().map(|samples| samples[batch]).sum::<f64>();
-        let times = self.of(key)?.iter().enumerate();
-        Some(median(
-            times.map(|(batch, time)| time / sum(batch)).collect(),
-        ))
+        self.median_of(&[&[key], by].concat(), |times| {
+            times[0] / times[1..].iter().sum::<f64>()
+        })
+    }
+
+    /// The median, over the batches, of how the time grows from one case to another, by how it grows
+    /// from a third to a fourth.
+    pub fn growth(&self, from: Key, to: Key, by: [Key; 2]) -> Option<f64> {
+        self.median_of(&[from, to, by[0], by[1]], |times| {
+            (times[1] / times[0]) / (times[3] / times[2])
+        })
+    }
+
+    /// The median, over the batches, of what is made of the cases' times.
+    fn median_of(&self, keys: &[Key], figure: impl Fn(&[f64]) -> f64) -> Option<f64> {
+        let series: Vec<&[f64]> = keys
+            .iter()
+            .map(|&key| self.of(key))
+            .collect::<Option<_>>()?;
+        let batches = 0..series.first()?.len();
+        let times =
+            |batch: usize| -> Vec<f64> { series.iter().map(|samples| samples[batch]).collect() };
+        let figures = batches.map(|batch| figure(&times(batch)));
+        Some(median(figures.collect()))
     }
 }
 
@@ -136,5 +164,19 @@ mod tests {
         assert_eq!(samples.ratio(whole, &[one, one, other]), Some(1.2));
         assert_eq!(samples.ratio(whole, &[one, none]), None);
         assert_eq!(samples.ratio(none, &[one]), None);
+    }
+
+    #[test]
+    fn growth_is_by_that_of_the_quicker() {
+        let [small, large, one, other] = [1, 2, 3, 4]
+            .map(|len| Key::new(Implementation::Library, None, "seal", Size::Bytes(len)));
+        let samples = Samples::made_up(vec![
+            (small, vec![1.0, 3.0, 4.0]),
+            (large, vec![8.0, 8.0, 80.0]),
+            (one, vec![1.0, 2.0, 2.0]),
+            (other, vec![2.0, 2.0, 9.0]),
+        ]);
+        assert_eq!(samples.quickest(&[large, one, small]), Some(one));
+        assert_eq!(samples.growth(small, large, [one, other]), Some(4.0));
     }
 }

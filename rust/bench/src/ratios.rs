@@ -5,12 +5,13 @@
 
 use crate::calls::{CONVERT, CONVERT_DONE, CONVERT_REFUSED, OPEN, OPEN_OLD, OPEN_REFUSED, SEAL};
 use crate::cases::Implementation::{
-    Avx2C, Avx2Clang, Library, LibraryRun, ScalarC, WideRun, XChaCha,
+    Avx2C, Avx2Clang, Library, LibraryRun, MarksC, MarksClang, ScalarC, ScalarClang, WideRun,
+    XChaCha,
 };
-use crate::cases::Size::{Bytes, Cells};
+use crate::cases::Size::{Bytes, Cells, Shuffled};
 use crate::cases::{Implementation, Key, Setting, Size, LONG};
 use crate::measure::Samples;
-use crate::stores::{CANCEL, READ, SIZES, TAKE, TOTAL};
+use crate::stores::*;
 use crate::wide;
 use reference::{MRO, OPP};
 use std::fmt;
@@ -25,8 +26,8 @@ pub struct Bound {
     by: By,
     pub most: f64,
     pub aim: Option<f64>,
-    /// What else there is to say about it.
-    pub note: &'static str,
+    /// What its calls and sizes are called, where they are not named one by one.
+    named: &'static str,
 }
 
 /// With which settings.
@@ -51,16 +52,48 @@ enum By {
     Calls(&'static [&'static str]),
     /// The same call with so many rounds.
     Rounds(u32),
-    /// The same call with another size.
-    Size(Size),
+    /// The same call of one version, as the compiler that makes it quicker does.
+    Quicker(&'static Builds),
+    /// How the same call of that grows from stores of [`SMALLER`]; the time's own growth is held
+    /// against it.
+    Growth(&'static Builds),
 }
 
-/// Of read's bounds, which stand where the figures are: 1.31 and 9.55.
-const DUE: &str = "today's figure and a twentieth; due with card 7";
+/// A version of the store in C, by each compiler.
+pub struct Builds {
+    name: &'static str,
+    by: [Implementation; 2],
+}
+
+/// That in c/store.c.
+pub static QUICKEST: Builds = Builds {
+    name: "quickest C",
+    by: [ScalarC, ScalarClang],
+};
+/// That which looks at every store by marks.
+pub static MARKS: Builds = Builds {
+    name: "C by marks",
+    by: [MarksC, MarksClang],
+};
+
+/// The cells from which stores grow.
+const SMALLER: usize = 128;
+const LARGEST: [Size; 2] = [Cells(1024), Shuffled(1024)];
+
+const SOUND: [&str; 4] = [TAKE, CANCEL, READ, TOTAL];
+const DAMAGED: [&str; 7] = [
+    RING,
+    LONG_RING,
+    CROSSED,
+    LONG_CROSSED,
+    LONG_PAST,
+    MISSING,
+    NO_KIND,
+];
 
 /// All bounds, a line each.
 #[rustfmt::skip]
-pub static BOUNDS: [Bound; 15] = [
+pub static BOUNDS: [Bound; 17] = [
     of(Library, &[SEAL, OPEN]).by(By::Who(ScalarC), 1.15),
     of(Library, &[OPEN, OPEN_REFUSED]).by(By::Calls(&[SEAL]), 1.10),
     of(Library, &[OPEN_OLD]).by(By::Calls(&[OPEN]), 1.05),
@@ -73,11 +106,14 @@ pub static BOUNDS: [Bound; 15] = [
     of(WideRun, &[SEAL, OPEN]).by(By::Who(Library), 0.55).aim(0.45),
     of(WideRun, &[SEAL, OPEN]).over(Over::Opp).by(By::Who(Avx2C), 1.15).aim(1.0),
     of(WideRun, &[SEAL, OPEN]).over(Over::Opp).by(By::Who(Avx2Clang), 1.10).aim(1.0),
-    store(&[TAKE, CANCEL, TOTAL]).by(By::Who(ScalarC), 1.20),
-    store(&[READ]).by(By::Who(ScalarC), 1.38).note(DUE),
-    // Eight times the cells: linear and a tenth.
-    store(&[TAKE, CANCEL, TOTAL]).with(&[Cells(1024)]).by(By::Size(Cells(128)), 8.80),
-    store(&[READ]).with(&[Cells(1024)]).by(By::Size(Cells(128)), 10.03).note(DUE),
+    store(&SOUND, "store take, cancel, read, total").by(By::Quicker(&MARKS), 1.00),
+    store(&SOUND, "store take, cancel, read, total").by(By::Quicker(&QUICKEST), 1.25),
+    store(&DAMAGED, "store read, damaged").by(By::Quicker(&MARKS), 2.00),
+    // Without marks it is known late, but no later than a long one.
+    store(&[SHORT_RING], "store read of a short ring").by(By::Calls(&[LONG_RING]), 1.00),
+    // Of reads alone, which are the check and little else: a quicker sealing would count as growth.
+    store(&[READ], "store read").with(&LARGEST).by(By::Growth(&QUICKEST), 1.10),
+    store(&DAMAGED, "store read, damaged").with(&LARGEST).by(By::Growth(&QUICKEST), 1.10),
 ];
 
 /// Calls of an implementation with all settings and the longest messages.
@@ -90,13 +126,15 @@ const fn of(of: Implementation, calls: &'static [&'static str]) -> Bound {
         by: By::Calls(&[]),
         most: 0.0,
         aim: None,
-        note: "",
+        named: "",
     }
 }
 
-/// The library's calls of the store.
-const fn store(calls: &'static [&'static str]) -> Bound {
-    of(Library, calls).over(Over::Store).with(&SIZES)
+/// The library's calls of the store, and what they are called.
+const fn store(calls: &'static [&'static str], named: &'static str) -> Bound {
+    let mut bound = of(Library, calls).over(Over::Store).with(&SIZES);
+    bound.named = named;
+    bound
 }
 
 impl Bound {
@@ -121,11 +159,6 @@ impl Bound {
         self
     }
 
-    const fn note(mut self, note: &'static str) -> Self {
-        self.note = note;
-        self
-    }
-
     /// Whether there is what it compares: the archive for x86-64-v3 needs a processor that runs it,
     /// and the AVX2 C by clang needs clang.
     fn counts(&self) -> bool {
@@ -134,7 +167,7 @@ impl Bound {
             _ => self.of,
         };
         let wide = self.of != WideRun || wide::missing().is_none();
-        let clang = who != Avx2Clang || wide::clang_missing().is_none();
+        let clang = !who.needs_clang() || wide::clang_missing().is_none();
         cfg!(feature = "archive") && wide && clang
     }
 
@@ -147,7 +180,7 @@ impl Bound {
                     let key = Key::new(self.of, setting, call, size);
                     ratios.push(Ratio {
                         key,
-                        measured: samples.ratio(key, &self.by.keys(key)),
+                        measured: self.by.ratio(samples, key),
                         taken: 1,
                         bound: self,
                     });
@@ -159,6 +192,9 @@ impl Bound {
 
     /// What is held, without who.
     pub fn what(&self) -> String {
+        if !self.named.is_empty() {
+            return self.named.into();
+        }
         let calls = self.calls.join(", ");
         let sizes = match self.sizes {
             [least, .., most] => format!("{least} to {most}"),
@@ -201,7 +237,7 @@ impl fmt::Display for Over {
 }
 
 impl By {
-    /// What the case of `key` is held against: the sum of these.
+    /// What the case of `key` is held against: the sum of these, or the quicker.
     fn keys(self, key: Key) -> Vec<Key> {
         match self {
             Self::Who(implementation) => {
@@ -217,8 +253,57 @@ impl By {
                 let setting = key.setting.map(|(mode, _)| (mode, rounds));
                 vec![Key { setting, ..key }]
             }
-            Self::Size(size) => vec![Key { size, ..key }],
+            Self::Quicker(builds) => builds.keys(key),
+            Self::Growth(builds) => {
+                let small = smaller(key);
+                [vec![small], builds.keys(small), builds.keys(key)].concat()
+            }
         }
+    }
+
+    /// The ratio of the case of `key`, where all that it needs was measured.
+    fn ratio(self, samples: &Samples, key: Key) -> Option<f64> {
+        match self {
+            Self::Quicker(builds) => builds.ratio(samples, key),
+            Self::Growth(builds) => {
+                let small = smaller(key);
+                let by = [
+                    builds.quicker(samples, small)?,
+                    builds.quicker(samples, key)?,
+                ];
+                samples.growth(small, key, by)
+            }
+            _ => samples.ratio(key, &self.keys(key)),
+        }
+    }
+}
+
+/// The same call with the store from which it grows.
+fn smaller(key: Key) -> Key {
+    let size = key.size.with_cells(SMALLER);
+    Key { size, ..key }
+}
+
+impl Builds {
+    /// The same call of each that there is.
+    fn keys(&self, key: Key) -> Vec<Key> {
+        let clang = wide::clang_missing().is_none();
+        let here = self.by.into_iter().filter(|by| clang || !by.needs_clang());
+        here.map(|implementation| Key {
+            implementation,
+            ..key
+        })
+        .collect()
+    }
+
+    /// The same call of the quicker one.
+    fn quicker(&self, samples: &Samples, key: Key) -> Option<Key> {
+        samples.quickest(&self.keys(key))
+    }
+
+    /// The ratio of the case of `key` to the same call of the quicker one.
+    pub fn ratio(&self, samples: &Samples, key: Key) -> Option<f64> {
+        samples.ratio(key, &[self.quicker(samples, key)?])
     }
 }
 
@@ -228,7 +313,8 @@ impl fmt::Display for By {
             Self::Who(who) => who.fmt(f),
             Self::Calls(calls) => f.write_str(&calls.join(" + ")),
             Self::Rounds(rounds) => write!(f, "{rounds} rounds"),
-            Self::Size(size) => size.fmt(f),
+            Self::Quicker(builds) => f.write_str(builds.name),
+            Self::Growth(builds) => write!(f, "growth of {} from {SMALLER} cells", builds.name),
         }
     }
 }
@@ -256,7 +342,7 @@ impl Ratio {
         self.bound.by.to_string()
     }
 
-    /// What it is held against: the sum of these.
+    /// All cases that it is held against.
     fn others(&self) -> Vec<Key> {
         self.bound.by.keys(self.key)
     }
@@ -282,7 +368,7 @@ impl Ratio {
 
     /// What it is once it is measured again: the lesser. Noise makes one measurement worse, a fall all.
     pub fn again(&mut self, samples: &Samples) {
-        let again = samples.ratio(self.key, &self.others());
+        let again = self.bound.by.ratio(samples, self.key);
         let both = self.measured.into_iter().chain(again);
         self.measured = both.min_by(f64::total_cmp);
         self.taken += 1;
@@ -449,6 +535,51 @@ mod tests {
                 _ => Some(100.0),
             });
             assert_eq!(broken, faults);
+        }
+    }
+
+    #[test]
+    fn the_store_is_held_against_the_quicker_build_of_each_version() {
+        let reads = |key: &Key| key.implementation == Library && key.call == READ;
+        for (library, by_marks, quickest, by) in [
+            ([100.0, 800.0], [100.0, 800.0], [80.0, 640.0], vec![]),
+            (
+                [100.0, 800.0],
+                [99.0, 800.0],
+                [80.0, 640.0],
+                vec!["C by marks"],
+            ),
+            (
+                [100.0, 800.0],
+                [100.0, 800.0],
+                [80.0, 639.0],
+                vec!["quickest C"],
+            ),
+            (
+                [80.0, 800.0],
+                [100.0, 800.0],
+                [80.0, 700.0],
+                vec!["growth of quickest C from 128 cells"],
+            ),
+        ] {
+            let ratios = Ratio::made_up(|key| {
+                let time = match key.implementation {
+                    Library => library,
+                    MarksC => by_marks,
+                    ScalarC => quickest,
+                    _ => [1000.0; 2],
+                };
+                Some(time[usize::from(key.size.bytes() > SMALLER * CELL)])
+            });
+            let mut above: Vec<String> = Vec::new();
+            above.extend(
+                ratios
+                    .iter()
+                    .filter(|ratio| reads(&ratio.key) && ratio.is_above())
+                    .map(Ratio::by),
+            );
+            above.dedup();
+            assert_eq!(above, by);
         }
     }
 

@@ -8,7 +8,7 @@ use crate::cases::{setting_name, Key, Setting, Size, LENGTHS, LONG};
 use crate::counter;
 use crate::measure::Samples;
 use crate::paper;
-use crate::ratios::Ratio;
+use crate::ratios::{Ratio, MARKS, QUICKEST};
 use crate::setup::Setup;
 use crate::stores::{CALLS, SIZES};
 use crate::table::{grouped, Table};
@@ -26,9 +26,11 @@ const NAMES: &str = "Calmbaize alone is the stepping engine on the archive in `d
     are of its AVX2 code on Haswell, for sealing and opening alike.\n\n";
 
 /// What stands below the figures of the store.
-const STORES: &str = "Half of the cells are sales. Cancel and read are of the sale that is last in its \
-    chain. The cells that a call changes are put back before the next, which is timed with it. 1,024 cells \
-    are 64 KiB: whether the processor's first cache holds them shows in the growth.\n\n";
+const STORES: &str = "In brackets the time by the C that looks at every store by marks, and by the quickest C, \
+    which as Calmbaize sees a sound store without (`c/store.c`, compiled twice). Half of the cells are sales. \
+    Cancel and read are of the sale that is last in its chain. The cells that a call changes are put back before \
+    the next, which is timed with it. The reads of damaged stores are refused; a long chain has all cells, or all \
+    but one.\n\n";
 
 /// The page, as Markdown.
 pub fn page(setup: &Setup, samples: &Samples, ratios: &[Ratio]) -> String {
@@ -46,7 +48,7 @@ pub fn page(setup: &Setup, samples: &Samples, ratios: &[Ratio]) -> String {
     );
     let title = "Other implementations, sealing, cycles per byte over the message's bytes";
     section(&mut page, title, &others(samples), "");
-    let title = "The store, cycles per call, Calmbaize / scalar C";
+    let title = "The store, cycles per call";
     section(&mut page, title, &stores(samples), STORES);
     section(
         &mut page,
@@ -64,8 +66,8 @@ fn heading(setup: &Setup) -> String {
         "# Benchmarks\n\n\
          Measured on {} on an {} by `make bench`. Cycles are those of {}, {:.2} GHz. Each figure is the \
          median of {} batches of calls; all take turns batch by batch. Headers are empty.\n\n\
-         The archives are by {} of the prover's kit ({}), the C by {}, the AVX2 C once more by {}, the \
-         second implementation by {}; libsodium {}.\n\n\
+         The archives are by {} of the prover's kit ({}), the C by {}, the AVX2 C and the \
+         store's once more by {}, the second implementation by {}; libsodium {}.\n\n\
          ![Cycles per byte over length](benchmarks.svg)\n\n\
          [benchmarks.csv](benchmarks.csv) has all figures: every call at every length, every ratio, and the \
          gate's seconds by crate.\n\n",
@@ -196,16 +198,19 @@ fn others(samples: &Samples) -> Table {
     table
 }
 
+/// Calmbaize's cycles, and in brackets the ratios to the C versions.
 fn stores(samples: &Samples) -> Table {
     let sizes = SIZES.map(|size| size.to_string());
     let mut table = Table::new(1, [String::new()].into_iter().chain(sizes).collect());
-    for call in CALLS.each_ref().map(|call| call.name) {
+    for call in &CALLS {
         let figures = SIZES.map(|size| {
-            let keys = [Library, ScalarC].map(|who| Key::new(who, None, call, size));
-            let both = keys.iter().filter_map(|&key| per_call(samples, key));
-            both.collect::<Vec<String>>().join(" / ")
+            let key = Key::new(Library, None, call.name, size);
+            let cycles = per_call(samples, key)?;
+            let [marks, quickest] = [&MARKS, &QUICKEST].map(|builds| builds.ratio(samples, key));
+            Some(format!("{cycles} ({:.2}, {:.2})", marks?, quickest?))
         });
-        table.row([call.to_string()].into_iter().chain(figures).collect());
+        let figures = figures.map(Option::unwrap_or_default);
+        table.row([call.name.to_string()].into_iter().chain(figures).collect());
     }
     table
 }

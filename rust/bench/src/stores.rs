@@ -1,18 +1,33 @@
-//! The calls of the sale store that are measured. A further call is a line of `CALLS`, and a function
-//! that makes it.
+//! The calls of the sale store that are measured, on sound stores and on damaged ones. A further call is a
+//! line of `CALLS`, and a function that makes it; a further damage is a line with a function that does it.
 
 use crate::buffer::Buffer;
-use crate::cases::{Implementation, Key, Size, KEY};
+use crate::cases::Size::{self, Cells, Shuffled};
+use crate::cases::{Implementation, Key, KEY};
 use crate::measure::Case;
+use baseline::{stores_by_clang, Store, BY_MARKS, STORE};
 
-/// How large the stores are. Half of the cells are sales.
-pub const SIZES: [Size; 3] = [Size::Cells(16), Size::Cells(128), Size::Cells(1024)];
+/// How large the stores are. Half of the cells of a sound one are sales.
+pub const SIZES: [Size; 6] = [
+    Cells(16),
+    Cells(128),
+    Cells(1024),
+    Shuffled(16),
+    Shuffled(128),
+    Shuffled(1024),
+];
 
 /// Bytes of a cell.
 pub const CELL: usize = 64;
 const MACHINE: u32 = 7;
 const TAIL: [u8; 8] = [0x24; 8];
 const CLOCK: [u8; 6] = [0x5a; 6];
+/// Where the first free index stands, and a cell's kind.
+const FIRST_FREE: usize = 2;
+const KIND: usize = 2;
+/// The numbers of refusals: an index, and a kind or missing cell.
+const INDEX: u64 = 19;
+const MISFIT: u64 = 20;
 
 pub const TAKE: &str = "store take";
 /// Of the sale that is last in its chain.
@@ -21,69 +36,81 @@ pub const CANCEL: &str = "store cancel";
 pub const READ: &str = "store read";
 pub const TOTAL: &str = "store total";
 
+// The read of a damaged store is the check and little else.
+
+/// The end of the free chain leads back to its head.
+pub const RING: &str = "read of a ring";
+/// All cells are sales, and the last leads to itself.
+pub const LONG_RING: &str = "read of a long tail into a ring";
+/// The end of the free chain leads to the first sale.
+pub const CROSSED: &str = "read of crossed chains";
+/// All cells but one are free, and the last leads to the sale.
+pub const LONG_CROSSED: &str = "read of a long tail into the other chain";
+/// All cells are sales, and the last index is past the last cell.
+pub const LONG_PAST: &str = "read of a long chain past the end";
+/// The free chain ends a cell too early.
+pub const MISSING: &str = "read with a missing cell";
+/// The last free cell is of no kind.
+pub const NO_KIND: &str = "read with a wrong kind";
+
+/// The first sale leads to itself: marks see that at once, a walk without only when it has gone too far.
+pub const SHORT_RING: &str = "read of a short ring";
+
 /// A call that is timed.
 pub struct Call {
     pub name: &'static str,
-    /// Who has it, and how it is made there on a store with so many sales, numbered from 1.
-    by: &'static [(Implementation, Make)],
-    /// What it has to answer.
-    wanted: fn(u32) -> u64,
-}
-
-type Make = fn(&mut [u8], u32) -> u64;
-
-/// A call by its name, the function that makes it, the library's name and the scalar C's, and what it
-/// has to answer.
-macro_rules! call {
-    ($name:expr, $make:ident, $library:ident, $scalar_c:ident, $wanted:expr) => {
-        Call {
-            name: $name,
-            by: &[
-                #[cfg(feature = "archive")]
-                (Implementation::Library, |store, sales| {
-                    $make(calmbaize::ffi::$library, store, sales)
-                }),
-                (Implementation::ScalarC, |store, sales| {
-                    $make(baseline::$scalar_c, store, sales)
-                }),
-            ],
-            wanted: $wanted,
-        }
-    };
+    /// Makes it on a store with so many sales, numbered from 1.
+    make: fn(&Store, &mut [u8], u32) -> u64,
+    /// Damages the sound store, or leaves it, and says what the call has to answer.
+    prepare: fn(&mut Filled) -> u64,
 }
 
 /// Every call.
 #[rustfmt::skip]
-pub const CALLS: [Call; 4] = [
-    call!(TAKE, take, calmbaize_store_take, baseline_store_take, |sales| u64::from(sales) + 1),
-    call!(CANCEL, cancel, calmbaize_store_cancel, baseline_store_cancel, |_| amount(1).into()),
-    call!(READ, read, calmbaize_store_read, baseline_store_read, |_| CELL as u64 + 3),
-    call!(TOTAL, total, calmbaize_store_total, baseline_store_total, coins),
+pub const CALLS: [Call; 12] = [
+    Call { name: TAKE, make: take, prepare: |store| store.free[0] as u64 },
+    Call { name: CANCEL, make: cancel, prepare: |_| amount(1).into() },
+    Call { name: READ, make: read, prepare: |store| (CELL * end(&store.sales) + 3) as u64 },
+    Call { name: TOTAL, make: total, prepare: |store| coins(store.sales.len() as u32) },
+    Call { name: RING, make: read, prepare: |store| store.lead_to(|store| store.free[0]) },
+    Call { name: LONG_RING, make: read, prepare: |store| store.all_sales().lead_to(|store| end(&store.sales)) },
+    Call { name: CROSSED, make: read, prepare: |store| store.lead_to(|store| store.sales[0]) },
+    Call { name: LONG_CROSSED, make: read, prepare: |store| store.one_sale().lead_to(|store| store.sales[0]) },
+    Call { name: LONG_PAST, make: read, prepare: |store| store.all_sales().lead_to(Filled::cells) },
+    Call { name: MISSING, make: read, prepare: Filled::lose },
+    Call { name: NO_KIND, make: read, prepare: Filled::spoil },
+    Call { name: SHORT_RING, make: read, prepare: Filled::turn },
 ];
 
-type Take = unsafe extern "C" fn(
-    *const u8,
-    usize,
-    *mut u8,
-    usize,
-    u32,
-    u32,
-    *const u8,
-    u32,
-    u16,
-    u8,
-    *const u8,
-) -> u64;
-type Cancel = unsafe extern "C" fn(*const u8, usize, *mut u8, usize, u32, u32) -> u64;
-type Read = unsafe extern "C" fn(*const u8, usize, u32, u32) -> u64;
-type Total = unsafe extern "C" fn(*const u8, usize, *const u8, usize, *mut u64) -> u64;
+/// Who has the calls.
+fn all_who() -> Vec<(Implementation, Store)> {
+    let mut all = vec![
+        #[cfg(feature = "archive")]
+        (Implementation::Library, LIBRARY),
+        (Implementation::ScalarC, STORE),
+        (Implementation::MarksC, BY_MARKS),
+    ];
+    if let Some([store, by_marks]) = stores_by_clang() {
+        all.push((Implementation::ScalarClang, store));
+        all.push((Implementation::MarksClang, by_marks));
+    }
+    all
+}
+
+#[cfg(feature = "archive")]
+const LIBRARY: Store = Store {
+    take: calmbaize::ffi::calmbaize_store_take,
+    cancel: calmbaize::ffi::calmbaize_store_cancel,
+    total: calmbaize::ffi::calmbaize_store_total,
+    read: calmbaize::ffi::calmbaize_store_read,
+};
 
 /// Takes one sale more.
-fn take(call: Take, store: &mut [u8], sales: u32) -> u64 {
+fn take(by: &Store, store: &mut [u8], sales: u32) -> u64 {
     let sale = sales + 1;
     // SAFETY: each pointer is valid for its length, and the store overlaps nothing.
     unsafe {
-        call(
+        (by.take)(
             KEY.as_ptr(),
             KEY.len(),
             store.as_mut_ptr(),
@@ -99,23 +126,23 @@ fn take(call: Take, store: &mut [u8], sales: u32) -> u64 {
     }
 }
 
-fn cancel(call: Cancel, store: &mut [u8], _: u32) -> u64 {
+fn cancel(by: &Store, store: &mut [u8], _: u32) -> u64 {
     let (bytes, len) = (store.as_mut_ptr(), store.len());
     // SAFETY: each pointer is valid for its length, and the store overlaps nothing.
-    unsafe { call(KEY.as_ptr(), KEY.len(), bytes, len, MACHINE, 1) }
+    unsafe { (by.cancel)(KEY.as_ptr(), KEY.len(), bytes, len, MACHINE, 1) }
 }
 
-fn read(call: Read, store: &mut [u8], _: u32) -> u64 {
+fn read(by: &Store, store: &mut [u8], _: u32) -> u64 {
     // SAFETY: the pointer is valid for its length.
-    unsafe { call(store.as_ptr(), store.len(), MACHINE, 1) }
+    unsafe { (by.read)(store.as_ptr(), store.len(), MACHINE, 1) }
 }
 
 /// Answers the total itself, or what no total is where it is refused.
-fn total(call: Total, store: &mut [u8], _: u32) -> u64 {
+fn total(by: &Store, store: &mut [u8], _: u32) -> u64 {
     let (bytes, len) = (store.as_ptr(), store.len());
     let mut total = u64::MAX;
     // SAFETY: each pointer is valid for its length, and the total overlaps nothing.
-    match unsafe { call(KEY.as_ptr(), KEY.len(), bytes, len, &mut total) } {
+    match unsafe { (by.total)(KEY.as_ptr(), KEY.len(), bytes, len, &mut total) } {
         0 => total,
         _ => u64::MAX,
     }
@@ -141,10 +168,10 @@ pub fn all(wanted: &dyn Fn(Key) -> bool) -> Vec<Case> {
     let mut cases = Vec::new();
     for call in &CALLS {
         for size in SIZES {
-            for &(implementation, make) in call.by {
+            for (implementation, by) in all_who() {
                 let key = Key::new(implementation, None, call.name, size);
                 if wanted(key) {
-                    cases.push(call.case(key, make));
+                    cases.push(call.case(key, by));
                 }
             }
         }
@@ -154,34 +181,193 @@ pub fn all(wanted: &dyn Fn(Key) -> bool) -> Vec<Case> {
 
 impl Call {
     /// The case of `key`. What the call changes in the store is put back each time.
-    fn case(&self, key: Key, make: Make) -> Case {
-        let kept = half_full(key.size.bytes());
+    fn case(&self, key: Key, by: Store) -> Case {
+        let mut filled = Filled::new(key.size);
+        let sales = filled.sales.len() as u32;
+        let (make, wanted, kept) = (self.make, (self.prepare)(&mut filled), filled.bytes);
         let mut store = Buffer::filled(0, kept.len());
         store.copy_from_slice(&kept);
-        let sales = (kept.len() / CELL / 2) as u32;
-        make(&mut store, sales);
+        make(&by, &mut store, sales);
         let changed: Vec<usize> = (0..kept.len())
             .step_by(CELL)
             .filter(|&at| store[at..at + CELL] != kept[at..at + CELL])
             .collect();
-        Case::new(key, (self.wanted)(sales), move || {
+        Case::new(key, wanted, move || {
             for &at in &changed {
                 store[at..at + CELL].copy_from_slice(&kept[at..at + CELL]);
             }
-            make(&mut store, sales)
+            make(&by, &mut store, sales)
         })
     }
 }
 
-/// A store of so many bytes, half of its cells sales, taken one after the other.
-fn half_full(bytes: usize) -> Vec<u8> {
-    let mut store = vec![0; bytes];
-    // SAFETY: the pointer is valid for its length.
-    let formatted = unsafe { baseline::baseline_store_format(store.as_mut_ptr(), store.len()) };
-    assert_eq!(formatted, 0, "a store of {bytes} bytes");
-    for sales in 0..(bytes / CELL / 2) as u32 {
-        let number = take(baseline::baseline_store_take, &mut store, sales);
-        assert_eq!(number, u64::from(sales) + 1);
+/// A store, and the cells of its chains from their heads on.
+#[derive(Clone)]
+struct Filled {
+    bytes: Vec<u8>,
+    sales: Vec<usize>,
+    free: Vec<usize>,
+}
+
+impl Filled {
+    /// A sound store, half of its cells sales, taken one after the other.
+    fn new(size: Size) -> Self {
+        let (bytes, sales, free) = (vec![0; size.bytes()], Vec::new(), order(size));
+        let mut store = Self { bytes, sales, free };
+        store.link();
+        for sales in 0..store.cells() / 2 {
+            let cell = store.free.remove(0);
+            let taken = take(&STORE, &mut store.bytes, sales as u32);
+            assert_eq!(taken, cell as u64);
+            store.sales.insert(0, cell);
+        }
+        store
     }
-    store
+
+    fn cells(&self) -> usize {
+        self.bytes.len() / CELL
+    }
+
+    /// Writes heads, next indices and kinds.
+    fn link(&mut self) {
+        for (head, chain, kind) in [(0, &self.sales, 1), (FIRST_FREE, &self.free, 0)] {
+            let mut holder = head;
+            for cell in chain {
+                put(&mut self.bytes, holder, *cell);
+                holder = CELL * cell;
+                self.bytes[holder + KIND] = kind;
+            }
+            put(&mut self.bytes, holder, 0);
+        }
+    }
+
+    /// Makes one long chain of both.
+    fn all_sales(&mut self) -> &mut Self {
+        self.sales.append(&mut self.free);
+        self.link();
+        self
+    }
+
+    /// Makes one long chain of all but the first sale.
+    fn one_sale(&mut self) -> &mut Self {
+        let mut rest = self.sales.split_off(1);
+        rest.append(&mut self.free);
+        self.free = rest;
+        self.link();
+        self
+    }
+
+    /// Puts an index into the last cell that is walked, which is then refused.
+    fn lead_to(&mut self, index: fn(&Self) -> usize) -> u64 {
+        let chains = [&self.free, &self.sales];
+        let last = chains.iter().find_map(|chain| chain.last().copied());
+        self.refused(last.expect("a cell"), index(self))
+    }
+
+    /// Has the first sale lead to itself.
+    fn turn(&mut self) -> u64 {
+        self.refused(self.sales[0], self.sales[0])
+    }
+
+    /// Puts an index into a cell, which is then refused.
+    fn refused(&mut self, holder: usize, index: usize) -> u64 {
+        put(&mut self.bytes, CELL * holder, index);
+        INDEX << 32 | holder as u64
+    }
+
+    /// Leaves the last free cell out of its chain.
+    fn lose(&mut self) -> u64 {
+        let missing = self.free.pop().expect("a free cell");
+        self.link();
+        MISFIT << 32 | missing as u64
+    }
+
+    /// Gives the last free cell no kind.
+    fn spoil(&mut self) -> u64 {
+        let cell = end(&self.free);
+        self.bytes[CELL * cell + KIND] = 255;
+        MISFIT << 32 | cell as u64
+    }
+}
+
+/// The last cell of a chain.
+fn end(chain: &[usize]) -> usize {
+    *chain.last().expect("a chain with cells")
+}
+
+fn put(store: &mut [u8], at: usize, index: usize) {
+    store[at..at + 2].copy_from_slice(&(index as u16).to_le_bytes());
+}
+
+/// All cells but cell 0 in the order in which they are taken; a shuffled one is the same each time.
+fn order(size: Size) -> Vec<usize> {
+    let mut cells: Vec<usize> = (1..size.bytes() / CELL).collect();
+    if let Shuffled(_) = size {
+        let mut random = random(1);
+        for i in (1..cells.len()).rev() {
+            cells.swap(i, random() as usize % (i + 1));
+        }
+    }
+    cells
+}
+
+/// Numbers that are the same each time (xorshift).
+fn random(mut seed: u64) -> impl FnMut() -> u64 {
+    move || {
+        seed ^= seed << 13;
+        seed ^= seed >> 7;
+        seed ^= seed << 17;
+        seed >> 16
+    }
+}
+
+#[cfg(test)]
+mod tests {
+    use super::*;
+
+    /// Damages a store at a few places.
+    fn damaged(size: Size, random: &mut impl FnMut() -> u64) -> Filled {
+        let mut store = Filled::new(size);
+        for _ in 0..random() % 3 {
+            let cells = store.cells();
+            let at = CELL * (random() as usize % cells);
+            match random() % 4 {
+                0 => put(
+                    &mut store.bytes,
+                    FIRST_FREE,
+                    random() as usize % (cells + 1),
+                ),
+                1 => store.bytes[at + KIND] = (random() % 3) as u8,
+                _ => put(&mut store.bytes, at, random() as usize % (cells + 1)),
+            }
+        }
+        store
+    }
+
+    #[test]
+    fn every_version_answers_alike() {
+        let mut random = random(2);
+        let mut refused = [0; 32];
+        for round in 0..6000 {
+            let cells = if round % 100 == 0 {
+                1024
+            } else {
+                2 + round % 80
+            };
+            let store = damaged(Shuffled(cells), &mut random);
+            let answers = all_who().into_iter().map(|(who, by)| {
+                let mut bytes = store.bytes.clone();
+                (who, read(&by, &mut bytes, 0), bytes)
+            });
+            let answers: Vec<_> = answers.collect();
+            refused[(answers[0].1 >> 32) as usize] += 1;
+            for (who, answer, bytes) in &answers {
+                assert_eq!(*answer, answers[0].1, "{who}, {cells} cells");
+                assert!(*bytes == store.bytes, "{who} changed the store");
+            }
+        }
+        for number in [0, INDEX, MISFIT] {
+            assert!(refused[number as usize] > 100, "{refused:?}");
+        }
+    }
 }

@@ -39,10 +39,10 @@ pub fn missing() -> Option<&'static str> {
     }
 }
 
-/// Why the AVX2 C by clang is not measured, where that by the other compiler is.
+/// Why what clang makes is not measured, where it is not.
 pub fn clang_missing() -> Option<&'static str> {
-    let missing = runs() && baseline::avx2_by_clang().is_none();
-    missing.then_some("no clang was found: the AVX2 C by clang is not measured")
+    let missing = baseline::stores_by_clang().is_none();
+    missing.then_some("no clang was found: the C by clang is not measured")
 }
 
 /// Why anything is not measured, a line for each.
