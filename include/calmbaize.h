@@ -36,9 +36,9 @@
 #include <stdint.h>
 
 /* The version, as text and as one number that grows. */
-#define CALMBAIZE_VERSION "0.6.0"
+#define CALMBAIZE_VERSION "0.7.0"
 #define CALMBAIZE_VERSION_MAJOR 0
-#define CALMBAIZE_VERSION_MINOR 6
+#define CALMBAIZE_VERSION_MINOR 7
 #define CALMBAIZE_VERSION_PATCH 0
 #define CALMBAIZE_VERSION_NUMBER \
     (CALMBAIZE_VERSION_MAJOR * 1000000 + CALMBAIZE_VERSION_MINOR * 1000 + CALMBAIZE_VERSION_PATCH)
@@ -130,7 +130,10 @@ extern "C" {
 #define CALMBAIZE_MEANS_COIN 1U
 #define CALMBAIZE_MEANS_CARD 2U
 
-/* Refusals. */
+/*
+ * Refusals. No number is used for a second thing: 14, which versions up to 0.6.0 gave
+ * for all that is 18, 19 and 20 now, is not given any more.
+ */
 #define CALMBAIZE_OK 0U                       /* nothing refused */
 #define CALMBAIZE_REFUSED_MODE 1U             /* mode not 1 or 2 */
 #define CALMBAIZE_REFUSED_ROUNDS 2U           /* rounds not 4, 6, 8 or 12 */
@@ -145,10 +148,12 @@ extern "C" {
 #define CALMBAIZE_REFUSED_COUNT 11U           /* net count outside -65,536 to 65,536 */
 #define CALMBAIZE_REFUSED_STEP 12U            /* step byte outside 1 to 6, at the place */
 #define CALMBAIZE_REFUSED_TOO_MANY_STEPS 13U  /* list over 4,096 steps */
-#define CALMBAIZE_REFUSED_STORE_FORM 14U      /* length, index, kind or chains not a store's */
 #define CALMBAIZE_REFUSED_STORE_FULL 15U      /* no free cell */
 #define CALMBAIZE_REFUSED_SALE_NUMBERS 16U    /* numbers present on take, absent else */
 #define CALMBAIZE_REFUSED_DONE_ALREADY 17U    /* parcel opens under the new start, not the old */
+#define CALMBAIZE_REFUSED_STORE_LENGTH 18U    /* store not 128 to 65,536 bytes in cells of 64 */
+#define CALMBAIZE_REFUSED_STORE_INDEX 19U     /* index past the last cell, or reached before */
+#define CALMBAIZE_REFUSED_STORE_KIND 20U      /* kind that does not fit, or cell in neither chain */
 
 /* The refusal's number, or CALMBAIZE_OK. */
 static inline uint32_t calmbaize_refusal(uint64_t answer)
@@ -159,7 +164,9 @@ static inline uint32_t calmbaize_refusal(uint64_t answer)
 /*
  * Where the ground of a refusal lies: the step's place in the list for
  * CALMBAIZE_REFUSED_STEP; the sale's cell for CALMBAIZE_REFUSED_TAG of
- * calmbaize_store_cancel() and calmbaize_store_total(); else 0.
+ * calmbaize_store_cancel() and calmbaize_store_total(); the cell that holds the
+ * index, which may be cell 0, for CALMBAIZE_REFUSED_STORE_INDEX; the cell itself
+ * for CALMBAIZE_REFUSED_STORE_KIND; else 0.
  */
 static inline uint32_t calmbaize_place(uint64_t answer)
 {
@@ -359,10 +366,18 @@ uint64_t calmbaize_jump(const uint8_t *start, size_t start_len,
  * (1) and clock (6). Sealed record and tag are the parcel that calmbaize_seal()
  * writes for it under MRO with six rounds and an empty header.
  *
- * Every call but format checks the store's form: the length; no index past the
- * last cell; every cell but cell 0 exactly once in the two chains; kind 1 in the
- * chain of sales and kind 0 in that of free cells. What a free cell holds behind
- * its kind, and cell 0 behind its two indices, is not looked at.
+ * Every call but format checks the store's form, in this order:
+ *
+ *   18   the length
+ *   19   the indices, as a walk from cell 0 meets them, the chain of sales first:
+ *        none is past the last cell, or of a cell that was reached before in
+ *        either chain. The place is the cell that holds the index.
+ *   20   where both walks end, the cells in their order from cell 1 on: each is
+ *        in a chain, with kind 1 among sales and kind 0 among free cells. The
+ *        place is the first cell that is not.
+ *
+ * What a free cell holds behind its kind, and cell 0 behind its two indices, is
+ * not looked at.
  *
  * A sale is named by its machine and sale number. Where two in the chain of
  * sales have both alike, the first is meant.
@@ -374,7 +389,7 @@ uint64_t calmbaize_jump(const uint8_t *start, size_t start_len,
  *
  * Success writes every byte of the store and answers 0.
  *
- * Refused with 14 for the length alone; then no byte changes.
+ * Refused with 18 for the length, and looks at nothing else; then no byte changes.
  */
 CALMBAIZE_NODISCARD
 uint64_t calmbaize_store_format(uint8_t *store, size_t store_len);
@@ -387,8 +402,8 @@ uint64_t calmbaize_store_format(uint8_t *store, size_t store_len);
  * cancellation, the tail should be another one: with the same nonce and record
  * the same bytes are sealed.
  *
- * Refused, in this order, with 3, 14, 16 where a sale with these numbers is
- * there, and 15; then no byte changes.
+ * Refused, in this order, with 3, 18, 19, 20, 16 where a sale with these numbers
+ * is there, and 15; then no byte changes.
  */
 CALMBAIZE_NODISCARD
 uint64_t calmbaize_store_take(const uint8_t *key, size_t key_len,
@@ -406,8 +421,8 @@ uint64_t calmbaize_store_take(const uint8_t *key, size_t key_len,
  * that led to the sale and the first free cell, and answers the amount. The rest
  * of the store is unchanged.
  *
- * Refused, in this order, with 3, 14, 16 where no sale has these numbers, and 9
- * where it does not open, with its cell as the place; then no byte changes.
+ * Refused, in this order, with 3, 18, 19, 20, 16 where no sale has these numbers,
+ * and 9 where it does not open, with its cell as the place; then no byte changes.
  */
 CALMBAIZE_NODISCARD
 uint64_t calmbaize_store_cancel(const uint8_t *key, size_t key_len,
@@ -420,9 +435,9 @@ uint64_t calmbaize_store_cancel(const uint8_t *key, size_t key_len,
  * Success writes the sum, which may pass 2^32, to the total and answers 0. The
  * store is unchanged.
  *
- * Refused, in this order, with 3, 14, and 9 where a sale, coin or not, does not
- * open, with the cell of the first such in the chain as the place; then the
- * total is unchanged.
+ * Refused, in this order, with 3, 18, 19, 20, and 9 where a sale, coin or not,
+ * does not open, with the cell of the first such in the chain as the place; then
+ * the total is unchanged.
  */
 CALMBAIZE_NODISCARD
 uint64_t calmbaize_store_total(const uint8_t *key, size_t key_len,
@@ -430,12 +445,13 @@ uint64_t calmbaize_store_total(const uint8_t *key, size_t key_len,
                                uint64_t *total);
 
 /*
- * Finds a sale, and opens nothing.
+ * Finds a sale, and opens nothing. It takes no key, so that it also serves to
+ * check a store's form: any answer but 18, 19 and 20 says that it is right.
  *
  * Success answers the offset in the store at which its 61 bytes begin: nonce,
  * sealed record and tag. The store is unchanged.
  *
- * Refused, in this order, with 14, and 16 where no sale has these numbers.
+ * Refused, in this order, with 18, 19, 20, and 16 where no sale has these numbers.
  */
 CALMBAIZE_NODISCARD
 uint64_t calmbaize_store_read(const uint8_t *store, size_t store_len,

@@ -259,9 +259,16 @@ static uint8_t *part_of(size_t sale)
     return store + CELL * (sale + 1) - SEALED;
 }
 
-/* Of a sale that is named: there and whole, or damaged. */
+static size_t last_cell(void)
+{
+    return now.store_len / CELL - 1;
+}
+
+/* Of a sale that is named: in a broken store, there and whole, or damaged. */
 static uint64_t by_sale(uint64_t sound, uint64_t damaged)
 {
+    if (now.broken)
+        return refused(now.broken, last_cell());
     if (now.sale > now.sales)
         return refused(CALMBAIZE_REFUSED_SALE_NUMBERS, 0);
     return now.changed ? damaged : sound;
@@ -287,10 +294,11 @@ static uint64_t store_take(void)
 
 static uint64_t taken(void)
 {
+    if (now.broken)
+        return refused(now.broken, last_cell());
     if (now.sale <= now.sales)
         return refused(CALMBAIZE_REFUSED_SALE_NUMBERS, 0);
-    return now.sales + 1 < now.store_len / CELL ? now.sale
-                                                : refused(CALMBAIZE_REFUSED_STORE_FULL, 0);
+    return now.sales < last_cell() ? now.sale : refused(CALMBAIZE_REFUSED_STORE_FULL, 0);
 }
 
 static uint64_t store_cancel(void)
@@ -305,7 +313,7 @@ static uint64_t cancelled(void)
 
 static unsigned sale_opened(void)
 {
-    return now.sale <= now.sales;
+    return !now.broken && now.sale <= now.sales;
 }
 
 /* A wrong total is a wrong answer. */
@@ -318,12 +326,16 @@ static uint64_t store_total(void)
 
 static uint64_t added_up(void)
 {
+    if (now.broken)
+        return refused(now.broken, last_cell());
     return now.changed ? refused(CALMBAIZE_REFUSED_TAG, now.sale) : 0;
 }
 
 /* The last sale taken is the first in the chain. */
 static unsigned sales_opened(void)
 {
+    if (now.broken)
+        return 0;
     return (unsigned)(now.changed ? now.sales - now.sale + 1 : now.sales);
 }
 
@@ -348,6 +360,18 @@ static void with_blanks(const struct plan *plan, void (*visit)(void))
     }
 }
 
+/* The store that was visited last, broken in each way. */
+static void with_broken(void (*visit)(void))
+{
+    const uint32_t numbers[] = {CALMBAIZE_REFUSED_STORE_INDEX, CALMBAIZE_REFUSED_STORE_KIND};
+
+    for (size_t i = 0; i < COUNT(numbers); i++) {
+        now.broken = numbers[i];
+        visit();
+    }
+    now.broken = 0;
+}
+
 /* The next sale, and the first one again, in stores with no sale to as many as there is room for. */
 static void with_new_sales(const struct plan *plan, void (*visit)(void))
 {
@@ -359,6 +383,7 @@ static void with_new_sales(const struct plan *plan, void (*visit)(void))
             visit();
             now.sale = sales + 1;
             visit();
+            with_broken(visit);
         }
 }
 
@@ -373,6 +398,7 @@ static void with_sales(const struct plan *plan, void (*visit)(void))
                 now.sale = sale == 0 ? now.sales + 1 : sale;
                 visit();
             }
+            with_broken(visit);
         }
 }
 
@@ -396,6 +422,17 @@ static void seal_sales(void)
         now.sealed_len = SEALED;
 }
 
+/* An index past the last cell, or a kind that no cell has. */
+static void break_store(void)
+{
+    uint8_t *cell = store + CELL * last_cell();
+
+    if (now.broken == CALMBAIZE_REFUSED_STORE_INDEX)
+        cell[0] = cell[1] = 0xff;
+    if (now.broken == CALMBAIZE_REFUSED_STORE_KIND)
+        cell[2] = 0xff;
+}
+
 static void choose_sale(void)
 {
     uint64_t coins = 0;
@@ -403,8 +440,9 @@ static void choose_sale(void)
     for (size_t sale = 1; sale <= now.sales; sale++)
         coins += record_of(sale)->amount &
                  -(uint64_t)(record_of(sale)->means == CALMBAIZE_MEANS_COIN);
-    now.total = now.changed ? UINT64_MAX : coins;
+    now.total = now.changed || now.broken ? UINT64_MAX : coins;
     memcpy(store, kept, now.store_len);
+    break_store();
     if (now.sealed_len > 0)
         damage(part_of(now.sale));
 }

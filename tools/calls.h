@@ -42,6 +42,8 @@ extern struct arguments {
     /* How many sales are in the store, numbered as their cells; or what it holds is no store. */
     size_t sales;
     int blank;
+    /* The number with which the store is refused for its last cell, whose index or kind is wrong, or 0. */
+    uint32_t broken;
     /* What store_total leaves: what the coins come to, or where it is refused what was there. */
     uint64_t total;
     /* The parcel, or the sale named, is so long; is of the old start; has these bits changed there. */

@@ -142,7 +142,7 @@ static int is_length(size_t len)
 static int no_length_between(size_t from, size_t to)
 {
     for (size_t len = from + 1; len < to; len++)
-        if (!refused(with("store_format", &now.store_len, len), CALMBAIZE_REFUSED_STORE_FORM))
+        if (!refused(with("store_format", &now.store_len, len), CALMBAIZE_REFUSED_STORE_LENGTH))
             return 0;
     return 1;
 }
@@ -314,6 +314,20 @@ static int sale_refused_in(size_t cell)
            calmbaize_place(cancelled) == cell && make("store_total") == cancelled;
 }
 
+/* Four free cells, one byte of a cell changed: every call is refused with the number and that place. */
+static int broken(size_t cell, size_t byte, uint8_t value, uint32_t number, size_t place)
+{
+    uint64_t read, taken;
+
+    if (!formatted(4))
+        return 0;
+    store[CELL * cell + byte] = value;
+    read = of_sale("store_read", 1);
+    taken = of_sale("store_take", 1);
+    return calmbaize_refusal(read) == number && calmbaize_place(read) == place && taken == read &&
+           of_sale("store_cancel", 1) == read && make("store_total") == read;
+}
+
 /* What the call answers to that sale, in a store of so many cells where the first is taken. */
 static uint64_t after_one(size_t cells, const char *call, size_t sale)
 {
@@ -344,12 +358,19 @@ static void other_refusals(void)
     REFUSE(CALMBAIZE_REFUSED_TAG, of_parcel("open", 1));
     HOLD(CALMBAIZE_REFUSED_TAG, sale_refused_in(1) && sale_refused_in(2));
     HOLD(CALMBAIZE_REFUSED_STEP, step_refused_at(0) && step_refused_at(3));
-    REFUSE(CALMBAIZE_REFUSED_STORE_FORM, with("store_format", &now.store_len, 0));
     REFUSE(CALMBAIZE_REFUSED_STORE_FULL, after_one(2, "store_take", 2));
     REFUSE(CALMBAIZE_REFUSED_SALE_NUMBERS, after_one(3, "store_take", 1));
     REFUSE(CALMBAIZE_REFUSED_SALE_NUMBERS, after_one(3, "store_cancel", 2));
     REFUSE(CALMBAIZE_REFUSED_SALE_NUMBERS, after_one(3, "store_read", 2));
     REFUSE(CALMBAIZE_REFUSED_DONE_ALREADY, of_parcel("convert", 0));
+    REFUSE(CALMBAIZE_REFUSED_STORE_LENGTH, with("store_format", &now.store_len, 0));
+    REFUSE(CALMBAIZE_REFUSED_STORE_LENGTH, with("store_read", &now.store_len, 0));
+    /* The first free index past the last cell, and cell 3 behind itself. */
+    HOLD(CALMBAIZE_REFUSED_STORE_INDEX, broken(0, 2, 4, CALMBAIZE_REFUSED_STORE_INDEX, 0) &&
+                                            broken(3, 0, 3, CALMBAIZE_REFUSED_STORE_INDEX, 3));
+    /* A sale among the free cells, and cell 3 in neither chain. */
+    HOLD(CALMBAIZE_REFUSED_STORE_KIND, broken(1, 2, 1, CALMBAIZE_REFUSED_STORE_KIND, 1) &&
+                                           broken(2, 0, 0, CALMBAIZE_REFUSED_STORE_KIND, 3));
 }
 
 int main(void)

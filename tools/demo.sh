@@ -1,7 +1,8 @@
 #!/bin/sh
 # The main job with the command line tool: seals a sale by both engines, opens it, shows that a
 # damaged parcel is refused, opens a parcel of an earlier version and converts it, alone and in a
-# folder, steps a mask on and back in two orders, and keeps sales in a store.
+# folder, steps a mask on and back in two orders, keeps sales in a store, and says what is broken in a
+# damaged copy of it.
 #
 # usage: demo.sh CALMBAIZE
 #
@@ -132,3 +133,12 @@ echo "and once more:        $(cat error) (status $status)"
 grep -q 'refused with 16' error
 [ "$status" -eq 1 ]
 cmp till before
+
+# Cell 2, the sale left, now leads to cell 255.
+{ head -c 128 till; printf '\377'; tail -c +130 till; } > damaged
+status=0
+"$tool" store check damaged > report || status=$?
+echo "the store checked:    $("$tool" store check till)"
+echo "its damaged copy:     $(head -n 1 report) (status $status)"
+grep -q '^refused with 19: the next index in cell 2 ' report
+[ "$status" -eq 1 ]

@@ -1,5 +1,5 @@
 pub mod Numbers
-mod Fronts
+mod Links
 pub mod Chains
 pub mod Counts
 pub mod Pigeons

@@ -1,5 +1,7 @@
 // The form of a store: its first fault. The chains are walked once each; each cell met is marked, and its
 // kind looked at.
+use crate::FREE;
+use crate::SALE;
 use crate::marks::is_marked;
 use crate::sound::is_sound;
 use crate::walk::walk;
@@ -111,12 +113,12 @@ fn form_fault(s: &[u8], marks: &mut [u64]) -> Fault
     ensures { λ r. ⌜ r ≡ formFault (now (s .entry)) ⌝ }
 {
     let cells = s.len() / 64;
-    let sales = walk(s, marks, index_at(s, 0), 1, cells, cells - 1);
+    let sales = walk(s, marks, index_at(s, 0), SALE, cells, cells - 1);
     let sold = sales.stop;
     match sold {
         Stop::Broken(c) => Fault::Index(c),
         Stop::End => {
-            let free = walk(s, marks, index_at(s, 2), 0, sales.kept, sales.left);
+            let free = walk(s, marks, index_at(s, 2), FREE, sales.kept, sales.left);
             let spare = free.stop;
             match spare {
                 Stop::Broken(c) => Fault::Index(c),

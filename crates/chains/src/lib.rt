@@ -7,6 +7,11 @@ mod marks;
 mod sound;
 mod walk;
 
+// The kind of a sale, and of a free cell.
+const SALE: usize = 1;
+
+const FREE: usize = 0;
+
 // What the walk of a chain leaves.
 pub struct Traversal {
     pub stop: Stop,

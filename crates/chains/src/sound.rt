@@ -2,9 +2,11 @@
 // no cell in common; and so many cells of them as there are are all. Both chains are walked side by side, so that
 // a step of the one does not wait for the other.
 use crate::BothWalked;
+use crate::FREE;
 use crate::OneWalked;
-use cells::fields::front_of;
+use crate::SALE;
 use cells::fields::index_at;
+use cells::fields::link_of;
 ghost use mathlib.Core.Path.{_≡_};
 ghost use mathlib.Core.Bool.{true};
 ghost use Prim.Native.Nat.{_≤_};
@@ -36,17 +38,17 @@ fn walk_both(s: &[u8]) -> BothWalked
         if free >= cells {
             break false;
         }
-        let a = front_of(s, sold);
-        let b = front_of(s, free);
-        if a / 65536 % 256 != 1 {
+        let sale = link_of(s, sold);
+        let spare = link_of(s, free);
+        if sale.kind != SALE {
             break false;
         }
-        if b / 65536 % 256 != 0 {
+        if spare.kind != FREE {
             break false;
         }
         left -= 2;
-        sold = a % 65536;
-        free = b % 65536;
+        sold = sale.next;
+        free = spare.next;
     };
     BothWalked {
         going: going,
@@ -73,12 +75,12 @@ fn walk_one(s: &[u8], first: usize, kind: usize, most: usize) -> OneWalked
         if at >= cells {
             break false;
         }
-        let front = front_of(s, at);
-        if front / 65536 % 256 != kind {
+        let link = link_of(s, at);
+        if link.kind != kind {
             break false;
         }
         left -= 1;
-        at = front % 65536;
+        at = link.next;
     };
     OneWalked {
         ended: ended,
@@ -95,11 +97,11 @@ pub fn is_sound(s: &[u8]) -> bool
     if !both.going {
         return false;
     }
-    let sold = walk_one(s, both.sold, 1, both.left);
+    let sold = walk_one(s, both.sold, SALE, both.left);
     if !sold.ended {
         return false;
     }
-    let free = walk_one(s, both.free, 0, sold.left);
+    let free = walk_one(s, both.free, FREE, sold.left);
     if !free.ended {
         return false;
     }

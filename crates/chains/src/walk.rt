@@ -3,7 +3,7 @@ use crate::Traversal;
 use crate::marks::is_marked;
 use crate::marks::mark;
 use cells::Stop;
-use cells::fields::front_of;
+use cells::fields::link_of;
 ghost use mathlib.Core.Path.{_≡_};
 ghost use mathlib.Core.Bool.{Bool, cond};
 ghost use mathlib.Core.List.{List};
@@ -57,10 +57,10 @@ pub fn walk(
         }
         mark(marks, at);
         left -= 1;
-        let front = front_of(s, at);
-        kept = lesser(front / 65536 % 256 != kind, at, kept);
+        let link = link_of(s, at);
+        kept = lesser(link.kind != kind, at, kept);
         from = at;
-        at = front % 65536;
+        at = link.next;
     };
     Traversal {
         stop: stop,

@@ -60,7 +60,7 @@ pub use masks::{jump, walk, Step};
 pub use refusal::{Ground, Refusal};
 pub use sale::{open_sale, sale_numbers, Sale};
 pub use settings::{Mode, Rounds};
-pub use store::{Sales, Store};
+pub use store::{Occupancy, Sales, Store};
 
 /// Bytes of a key.
 pub const KEY_LEN: usize = 32;

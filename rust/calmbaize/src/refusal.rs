@@ -18,8 +18,9 @@ use core::fmt;
 pub struct Refusal {
     /// What the call was refused for.
     pub ground: Ground,
-    /// Where the ground lies: the index of the step for [`Ground::Step`], the cell for
-    /// [`Ground::Tag`] of a sale in a store, 0 for the others here.
+    /// Where the ground lies: the index of the step for [`Ground::Step`]; the cell for
+    /// [`Ground::Tag`] of a sale in a store, for [`Ground::StoreKind`] and, as the one that holds
+    /// the index, for [`Ground::StoreIndex`], where it may be cell 0; 0 for the others here.
     pub place: u32,
 }
 
@@ -49,7 +50,7 @@ impl From<Ground> for Refusal {
 macro_rules! grounds {
     ($($number:literal $name:ident $text:literal,)+) => {
         /// What a call is refused for. Its [number](Self::number) is the same in every interface
-        /// of the library. In its text `{place}` stands for the [place](Refusal::place), `{cell}`
+        /// of the library; 14 is not given any more. In its text `{place}` stands for the [place](Refusal::place), `{cell}`
         /// for the same as a cell, where it is one, and `{rounds}` for the
         /// [allowed counts](Rounds::LIST).
         #[derive(Clone, Copy, Debug, PartialEq, Eq, Hash)]
@@ -108,10 +109,12 @@ grounds! {
     11 Count "net count is outside -65,536 to 65,536",
     12 Step "step at {place} is not 1 to 6",
     13 TooManySteps "list is over 4,096 steps",
-    14 StoreForm "store is not 128 to 65,536 bytes in cells of 64, or its chains are broken",
     15 StoreFull "store has no free cell",
     16 SaleNumbers "machine and sale number are there already (take) or not there (cancel, read)",
     17 DoneAlready "done already: parcel opens under the new start, and not under the old",
+    18 StoreLength "store is not 128 to 65,536 bytes in cells of 64",
+    19 StoreIndex "index held by cell {place} is past the last cell, or of a cell reached before",
+    20 StoreKind "cell {place} is in neither chain, or its kind does not fit its chain",
 }
 
 impl fmt::Display for Refusal {

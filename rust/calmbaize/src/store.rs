@@ -6,8 +6,8 @@ use crate::{Ground, Key, Refusal, Sale, CELL_LEN, NONCE_TAIL_LEN, SALE_LEN};
 /// A store of sealed sales over a lent buffer of [`MIN_STORE_LEN`](crate::MIN_STORE_LEN) to
 /// [`MAX_STORE_LEN`](crate::MAX_STORE_LEN) bytes, a multiple of [`CELL_LEN`].
 ///
-/// It keeps nothing beside the buffer. Each call checks the whole buffer's form and refuses with
-/// [`Ground::StoreForm`] what is no store. A refused call changes no byte.
+/// It keeps nothing beside the buffer. Each call checks the whole buffer's form, as
+/// [`check`](Self::check) does alone, and refuses what is no store. A refused call changes no byte.
 ///
 /// Each cell but the first holds one sale: its machine and sale number in the clear, the rest
 /// sealed under MRO with six rounds. From a [`format`](Self::format) on, with one key and these
@@ -49,7 +49,7 @@ impl<'a> Store<'a> {
     ///
     /// let mut buffer = [0xaa; 128];
     /// let mut store = Store::new(&mut buffer);
-    /// assert_eq!(store.read(11, 1), Err(Ground::StoreForm.into()));
+    /// assert_eq!(store.read(11, 1), Err(Ground::StoreIndex.into()));
     /// assert_eq!(store.format(), Ok(()));
     /// assert_eq!(store.read(11, 1), Err(Ground::SaleNumbers.into()));
     /// ```
@@ -61,7 +61,7 @@ impl<'a> Store<'a> {
     ///
     /// # Errors
     ///
-    /// [`Ground::StoreForm`] where the buffer's length is not a store's.
+    /// [`Ground::StoreLength`] where the buffer's length is not a store's.
     ///
     /// # Examples
     ///
@@ -69,10 +69,48 @@ impl<'a> Store<'a> {
     /// use calmbaize::{Ground, Store};
     ///
     /// assert_eq!(Store::new(&mut [0xaa; 128]).format(), Ok(()));
-    /// assert_eq!(Store::new(&mut [0xaa; 64]).format(), Err(Ground::StoreForm.into()));
+    /// assert_eq!(Store::new(&mut [0xaa; 64]).format(), Err(Ground::StoreLength.into()));
     /// ```
     pub fn format(&mut self) -> Result<(), Refusal> {
         store::format(self.bytes)
+    }
+
+    /// How many sales and free cells the store has, where its form is right. No key is needed, and
+    /// no sale is opened.
+    ///
+    /// # Errors
+    ///
+    /// The first of these that holds:
+    ///
+    /// - [`Ground::StoreLength`]
+    /// - [`Ground::StoreIndex`] on the way along the sales and then along the free cells: an index past
+    ///   the last cell, or of a cell reached before in either chain, with the cell that holds it, which
+    ///   is cell 0 for the first of a chain
+    /// - [`Ground::StoreKind`] in the order of the cells: a cell whose kind does not fit its chain, or
+    ///   that is in neither, with that cell
+    ///
+    /// # Examples
+    ///
+    /// ```
+    /// use calmbaize::{Ground, Occupancy, Refusal, Store};
+    ///
+    /// let mut buffer = [0; 256];
+    /// Store::new(&mut buffer).format()?;
+    /// assert_eq!(Store::new(&mut buffer).check(), Ok(Occupancy { cells: 4, sales: 0, free: 3 }));
+    ///
+    /// buffer[2 * 64] = 9;
+    /// let refusal = Store::new(&mut buffer).check().unwrap_err();
+    /// assert_eq!((refusal.ground, refusal.place), (Ground::StoreIndex, 2));
+    /// # Ok::<(), Refusal>(())
+    /// ```
+    pub fn check(&self) -> Result<Occupancy, Refusal> {
+        let sales = self.sales()?.count();
+        let cells = self.bytes.len() / CELL_LEN;
+        Ok(Occupancy {
+            cells,
+            sales,
+            free: cells.saturating_sub(sales + 1),
+        })
     }
 
     /// Seals a sale into the first free cell and puts it before the other sales.
@@ -83,8 +121,8 @@ impl<'a> Store<'a> {
     ///
     /// # Errors
     ///
-    /// The first of [`Ground::StoreForm`], [`Ground::SaleNumbers`] where the store has a sale with
-    /// these numbers, and [`Ground::StoreFull`] that holds.
+    /// Those of [`check`](Self::check); then [`Ground::SaleNumbers`] where the store has a sale with
+    /// these numbers; then [`Ground::StoreFull`].
     ///
     /// # Examples
     ///
@@ -116,8 +154,8 @@ impl<'a> Store<'a> {
     ///
     /// # Errors
     ///
-    /// The first of [`Ground::StoreForm`], [`Ground::SaleNumbers`] where the store has no sale
-    /// with these numbers, and [`Ground::Tag`], with the cell, where the sale won't open.
+    /// Those of [`check`](Self::check); then [`Ground::SaleNumbers`] where the store has no sale with
+    /// these numbers; then [`Ground::Tag`], with the cell, where the sale won't open.
     ///
     /// # Examples
     ///
@@ -143,8 +181,8 @@ impl<'a> Store<'a> {
     ///
     /// # Errors
     ///
-    /// The first of [`Ground::StoreForm`] and [`Ground::Tag`] that holds, the latter with the cell
-    /// of the first sale in the chain, coin or not, that won't open.
+    /// Those of [`check`](Self::check); then [`Ground::Tag`], with the cell of the first sale in the
+    /// chain, coin or not, that won't open.
     ///
     /// # Examples
     ///
@@ -172,8 +210,8 @@ impl<'a> Store<'a> {
     ///
     /// # Errors
     ///
-    /// The first of [`Ground::StoreForm`] and [`Ground::SaleNumbers`] that holds, the latter where
-    /// the store has no sale with these numbers.
+    /// Those of [`check`](Self::check); then [`Ground::SaleNumbers`] where the store has no sale with
+    /// these numbers.
     ///
     /// # Examples
     ///
@@ -202,7 +240,7 @@ impl<'a> Store<'a> {
     ///
     /// # Errors
     ///
-    /// [`Ground::StoreForm`].
+    /// Those of [`check`](Self::check).
     ///
     /// # Examples
     ///
@@ -232,6 +270,17 @@ impl<'a> Store<'a> {
             }),
         }
     }
+}
+
+/// How the cells of a store are used. See [`Store::check`].
+#[derive(Clone, Copy, Debug, PartialEq, Eq)]
+pub struct Occupancy {
+    /// All cells, cell 0 too.
+    pub cells: usize,
+    /// Cells that hold a sale.
+    pub sales: usize,
+    /// Cells that are free.
+    pub free: usize,
 }
 
 /// The sales of a store whose form is right, so that their chain ends. See [`Store::sales`].

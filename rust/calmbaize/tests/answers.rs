@@ -4,8 +4,10 @@ use calmbaize::ffi::decode;
 use calmbaize::{Ground, Refusal, Rounds};
 use std::error::Error;
 
-/// The first number that no ground has.
-const UNKNOWN: u32 = 18;
+/// The number that no call gives any more.
+const WITHDRAWN: u32 = 14;
+/// The first number that no ground has had.
+const UNKNOWN: u32 = 21;
 
 fn refusal(number: u32, place: u32) -> Refusal {
     decode(u64::from(number) << 32 | u64::from(place)).unwrap_err()
@@ -34,16 +36,19 @@ fn numbers_of_the_documents() {
         Ground::Count,
         Ground::Step,
         Ground::TooManySteps,
-        Ground::StoreForm,
         Ground::StoreFull,
         Ground::SaleNumbers,
         Ground::DoneAlready,
+        Ground::StoreLength,
+        Ground::StoreIndex,
+        Ground::StoreKind,
     ];
-    for (number, ground) in (1..UNKNOWN).zip(grounds) {
+    let numbers: Vec<u32> = (1..UNKNOWN).filter(|&n| n != WITHDRAWN).collect();
+    for (&number, ground) in numbers.iter().zip(grounds) {
         assert_eq!(ground.number(), number);
         assert_eq!(refusal(number, 0), ground.into());
     }
-    assert_eq!(grounds.len(), UNKNOWN as usize - 1);
+    assert_eq!(grounds.len(), numbers.len());
 }
 
 #[test]
@@ -52,7 +57,8 @@ fn number_and_place_are_kept_for_every_number() {
         let refusal = refusal(number, 7);
         assert_eq!((refusal.number(), refusal.place), (number, 7));
         let unknown = matches!(refusal.ground, Ground::Unknown { .. });
-        assert_eq!(unknown, number >= UNKNOWN, "{number}");
+        let none = number == WITHDRAWN || number >= UNKNOWN;
+        assert_eq!(unknown, none, "{number}");
     }
 }
 
@@ -68,5 +74,13 @@ fn refusals_are_errors_with_a_text() {
     assert_eq!(text(12), "step at 7 is not 1 to 6");
     let done = "done already: parcel opens under the new start, and not under the old";
     assert_eq!(text(17), done);
+    let length = "store is not 128 to 65,536 bytes in cells of 64";
+    assert_eq!(text(18), length);
+    // Cell 0 holds the two first indices, and is named as any other.
+    for cell in [0, 1, 1023] {
+        let index = refusal(19, cell).to_string();
+        assert!(index.starts_with(&format!("index held by cell {cell} is past ")));
+    }
+    assert!(text(20).starts_with("cell 7 is in neither chain, or its kind "));
     assert_eq!(text(UNKNOWN), "ground is not known to this version, at 7");
 }

@@ -2,8 +2,8 @@
 
 use calmbaize::slices::store::{cancel, format, read, take, total};
 use calmbaize::{open_sale, sale_numbers, Aead, Header, Key, Mode, Nonce, Rounds};
-use calmbaize::{Ground, Refusal, Sale, Store, CELL_LEN, MAX_STORE_LEN, MIN_STORE_LEN};
-use calmbaize::{MEANS_CARD, MEANS_COIN, SALE_LEN};
+use calmbaize::{Ground, Occupancy, Refusal, Sale, Store};
+use calmbaize::{CELL_LEN, MAX_STORE_LEN, MEANS_CARD, MEANS_COIN, MIN_STORE_LEN, SALE_LEN};
 
 const KEY: [u8; 32] = [3; 32];
 const TAIL: [u8; 8] = [0xc1; 8];
@@ -52,14 +52,15 @@ fn refused<T: std::fmt::Debug>(
     assert_eq!(lent, bytes);
 }
 
-/// All calls that look at the store's form refuse it.
-fn no_store(bytes: &[u8]) {
-    let form = Ground::StoreForm;
+/// All calls that look at the store's form refuse it alike.
+fn no_store(bytes: &[u8], form: impl Into<Refusal>) {
+    let form = form.into();
     refused(bytes, form, |lent| take(&KEY, lent, &TAIL, &SALE));
     refused(bytes, form, |lent| cancel(&KEY, lent, SALE.machine, 1));
     refused(bytes, form, |lent| total(&KEY, lent));
     refused(bytes, form, |lent| read(lent, SALE.machine, 1));
     refused(bytes, form, |lent| Store::new(lent).sales().map(|_| ()));
+    refused(bytes, form, |lent| Store::new(lent).check());
     // The key is looked at first.
     let short = Ground::KeyLength;
     refused(bytes, short, |lent| take(&KEY[1..], lent, &TAIL, &SALE));
@@ -87,8 +88,8 @@ fn lengths() {
             assert_eq!(format(&mut bytes), Ok(()), "{len}");
             assert_eq!(total(&KEY, &bytes), Ok(0), "{len}");
         } else {
-            refused(&bytes, Ground::StoreForm, format);
-            no_store(&bytes);
+            refused(&bytes, Ground::StoreLength, format);
+            no_store(&bytes, Ground::StoreLength);
         }
     }
 }
@@ -185,30 +186,35 @@ fn total_refusals() {
 /// A store with one byte changed, and what is not looked at.
 #[test]
 fn chains() {
+    use Ground::{StoreIndex, StoreKind};
     // Cell 0, sales 3, 2, 1, free cells 4, 5.
     let right = stored(6, 3);
     let cell = CELL_LEN;
     let wrong = [
-        ("sales past the last cell", 0, 6),
-        ("sales far past it", 1, 1),
-        ("free past the last cell", 2, 6),
-        ("next past the last cell", cell, 6),
-        ("next far past it", 5 * cell + 1, 0xff),
-        ("free among the sales", 2 * cell + 2, 0),
-        ("another kind among the sales", 2 * cell + 2, 2),
-        ("a sale among the free", 4 * cell + 2, 1),
-        ("another kind among the free", 5 * cell + 2, 2),
-        ("sales that go round", cell, 3),
-        ("a cell that follows itself", 5 * cell, 5),
-        ("a cell in neither chain", 4 * cell, 0),
-        ("one chain runs into the other", cell, 4),
+        ("sales past the last cell", 0, 6, at(StoreIndex, 0)),
+        ("sales far past it", 1, 1, at(StoreIndex, 0)),
+        ("free past the last cell", 2, 6, at(StoreIndex, 0)),
+        ("next past the last cell", cell, 6, at(StoreIndex, 1)),
+        ("next far past it", 5 * cell + 1, 0xff, at(StoreIndex, 5)),
+        ("sales that go round", cell, 3, at(StoreIndex, 1)),
+        ("a cell behind itself", 5 * cell, 5, at(StoreIndex, 5)),
+        ("both heads alike", 2, 3, at(StoreIndex, 0)),
+        ("sales into the first free", cell, 4, at(StoreIndex, 0)),
+        ("sales into the free cells", cell, 5, at(StoreIndex, 4)),
+        ("free cells into the sales", 5 * cell, 2, at(StoreIndex, 5)),
+        ("free among the sales", 2 * cell + 2, 0, at(StoreKind, 2)),
+        ("kind 2 among the sales", cell + 2, 2, at(StoreKind, 1)),
+        ("a sale among the free", 4 * cell + 2, 1, at(StoreKind, 4)),
+        ("kind 2 among the free", 5 * cell + 2, 2, at(StoreKind, 5)),
+        ("a cell in neither chain", 4 * cell, 0, at(StoreKind, 5)),
+        ("all sales in neither chain", 0, 0, at(StoreKind, 1)),
     ];
-    for (what, at, byte) in wrong {
+    for (what, at, byte, refusal) in wrong {
         let mut bytes = right.clone();
         assert_ne!(bytes[at], byte, "{what}");
         bytes[at] = byte;
         println!("{what}");
-        no_store(&bytes);
+        no_store(&bytes, refusal);
     }
     let mut bytes = right;
     bytes[4..cell].fill(0xaa);
@@ -221,9 +227,28 @@ fn chains() {
 fn a_chain_past_the_end() {
     let mut bytes = stored(7, 3);
     bytes[4 * CELL_LEN] = 6;
-    no_store(&bytes);
+    no_store(&bytes, at(Ground::StoreKind, 5));
     let answer = read(&bytes[..6 * CELL_LEN], SALE.machine, 1);
-    assert_eq!(answer, Err(Ground::StoreForm.into()));
+    assert_eq!(answer, Err(at(Ground::StoreIndex, 4)));
+}
+
+#[test]
+fn cells_are_counted() {
+    for (cells, sales) in [(2, 0), (2, 1), (5, 0), (5, 3), (5, 4)] {
+        let mut bytes = stored(cells, sales as u32);
+        let free = cells - 1 - sales;
+        let occupancy = Occupancy { cells, sales, free };
+        assert_eq!(Store::new(&mut bytes).check(), Ok(occupancy));
+    }
+    // With a sale of the numbers that are asked for.
+    let mut bytes = stored(3, 0);
+    let zero = Sale {
+        machine: 0,
+        ..numbered(0)
+    };
+    take(&KEY, &mut bytes, &TAIL, &zero).unwrap();
+    let counted = Store::new(&mut bytes).check().unwrap();
+    assert_eq!((counted.sales, counted.free), (1, 1));
 }
 
 #[test]

@@ -50,7 +50,7 @@ fn convert_folder(options: &Options, path: &OsStr) -> Result<(), Failure> {
     files::print(&counts.text())?;
     match counts.status() {
         0 => Ok(()),
-        status => Err(Failure::Parcels(status)),
+        status => Err(Failure::Said(status)),
     }
 }
 

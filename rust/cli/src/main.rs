@@ -3,13 +3,14 @@
 mod commands;
 mod convert;
 mod engine;
+mod fault;
 mod files;
 mod help;
 mod options;
 mod progress;
 mod store;
 
-use calmbaize::Refusal;
+use calmbaize::{Ground, Refusal};
 use commands::Command;
 use options::Options;
 use std::ffi::{OsStr, OsString};
@@ -18,14 +19,14 @@ use std::process::ExitCode;
 
 /// Why a command did not succeed. A file that can't be written may be a pipe, a device or standard
 /// output that has got a part, after a store was changed; otherwise nothing was written, but for
-/// a list with sales that won't open and the parcels of a folder.
+/// a list with sales that won't open, the report on a broken store and the parcels of a folder.
 enum Failure {
     Usage(String),
     File(String),
     Refused(Refusal),
-    /// Some parcels of a folder were refused or have failed, each with a line of its own: the
-    /// exit status.
-    Parcels(u8),
+    /// What is wrong was said already, of a broken store or of each parcel of a folder: the exit
+    /// status.
+    Said(u8),
 }
 
 impl Failure {
@@ -33,7 +34,7 @@ impl Failure {
         match self {
             Self::Usage(_) | Self::File(_) => 2,
             Self::Refused(_) => 1,
-            Self::Parcels(status) => *status,
+            Self::Said(status) => *status,
         }
     }
 }
@@ -42,11 +43,20 @@ impl fmt::Display for Failure {
     fn fmt(&self, f: &mut fmt::Formatter<'_>) -> fmt::Result {
         match self {
             Self::Usage(message) | Self::File(message) => f.write_str(message),
-            Self::Refused(refusal) => write!(f, "refused with {}: {refusal}", refusal.number()),
-            Self::Parcels(_) => f.write_str("some parcels were refused or have failed"),
+            Self::Refused(refusal) => {
+                write!(f, "refused with {}: {refusal}", refusal.number())?;
+                match refusal.ground {
+                    Ground::StoreIndex | Ground::StoreKind => f.write_str(SEE_CHECK),
+                    _ => Ok(()),
+                }
+            }
+            Self::Said(_) => f.write_str("as said already"),
         }
     }
 }
+
+/// Behind the refusal of a broken store.
+const SEE_CHECK: &str = "; see 'calmbaize store check'";
 
 impl From<Refusal> for Failure {
     fn from(refusal: Refusal) -> Self {
@@ -73,7 +83,7 @@ fn main() -> ExitCode {
         return ExitCode::SUCCESS;
     };
     match failure {
-        Failure::Parcels(_) => {}
+        Failure::Said(_) => {}
         Failure::Usage(_) => eprintln!("calmbaize: {failure}; see '{hint} --help'"),
         Failure::File(_) | Failure::Refused(_) => eprintln!("calmbaize: {failure}"),
     }

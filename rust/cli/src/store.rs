@@ -1,15 +1,16 @@
 //! The commands over a store of sales in a file.
 
 use crate::commands::{hex, key_bytes, key_needed, Command};
+use crate::fault;
 use crate::files::{self, Access};
 use crate::help::store as help;
 use crate::options::{needed, Options, FILE};
 use crate::Failure;
-use calmbaize::{open_sale, sale_numbers, Key, Sale, Store};
+use calmbaize::{open_sale, sale_numbers, Key, Occupancy, Sale, Store};
 use calmbaize::{CELL_LEN, MAX_STORE_LEN, MEANS_CARD, MEANS_COIN, NONCE_TAIL_LEN, SALE_LEN};
 use std::ffi::OsStr;
 
-pub const COMMANDS: [Command; 6] = [
+pub const COMMANDS: [Command; 7] = [
     Command {
         name: "format",
         help: help::format,
@@ -63,6 +64,12 @@ pub const COMMANDS: [Command; 6] = [
         help: help::list,
         options: &[FILE, "--key", "--key-file"],
         run: list,
+    },
+    Command {
+        name: "check",
+        help: help::check,
+        options: &[FILE],
+        run: check,
     },
 ];
 
@@ -163,6 +170,20 @@ fn list(options: &Options) -> Result<(), Failure> {
     }
     files::print(&text)?;
     refused.map_or(Ok(()), |refusal| Err(refusal.into()))
+}
+
+/// A broken store gets a report, which is what the command is for, and not a line of error.
+fn check(options: &Options) -> Result<(), Failure> {
+    let mut bytes = contents(file(options)?)?;
+    match Store::new(&mut bytes).check() {
+        Ok(Occupancy { cells, sales, free }) => {
+            files::print(&format!("cells {cells} sales {sales} free {free}\n"))
+        }
+        Err(refusal) => {
+            files::print(&fault::report(&bytes, refusal).ok_or(refusal)?)?;
+            Err(Failure::Said(1))
+        }
+    }
 }
 
 fn file(options: &Options) -> Result<&OsStr, Failure> {

@@ -127,7 +127,7 @@ pub static FORMAT: Entry = Entry {
     name: "format",
     args: &[Store],
     writes: &[Store],
-    refused: &[14],
+    refused: &[18],
     written: |_| 0,
     function: function!(c2, calmbaize_store_format, baseline_store_format),
     reference: |a| store::format(a.next()),
@@ -139,7 +139,7 @@ pub static TAKE: Entry = Entry {
     args: &[
         Key, Store, Machine, Sale, Tail, Amount, Column, Means, Clock,
     ],
-    refused: &[3, 14, 16, 15],
+    refused: &[3, 18, 19, 20, 16, 15],
     function: function!(c11, calmbaize_store_take, baseline_store_take),
     reference: take_by_reference,
     ..FORMAT
@@ -148,7 +148,7 @@ pub static TAKE: Entry = Entry {
 pub static CANCEL: Entry = Entry {
     name: "cancel",
     args: &[Key, Store, Machine, Sale],
-    refused: &[3, 14, 16, 9],
+    refused: &[3, 18, 19, 20, 16, 9],
     function: function!(c6, calmbaize_store_cancel, baseline_store_cancel),
     reference: |a| {
         let amount = store::cancel(a.next(), a.next(), a.next(), a.next());
@@ -161,7 +161,7 @@ pub static TOTAL: Entry = Entry {
     name: "total",
     args: &[Key, Store, Total],
     writes: &[Total],
-    refused: &[3, 14, 9],
+    refused: &[3, 18, 19, 20, 9],
     function: function!(c5, calmbaize_store_total, baseline_store_total),
     reference: |a| {
         let total = store::total(a.next(), a.next())?;
@@ -175,7 +175,7 @@ pub static READ: Entry = Entry {
     name: "read",
     args: &[Store, Machine, Sale],
     writes: &[],
-    refused: &[14, 16],
+    refused: &[18, 19, 20, 16],
     function: function!(c4, calmbaize_store_read, baseline_store_read),
     reference: |a| store::read(a.next(), a.next(), a.next()),
     ..FORMAT

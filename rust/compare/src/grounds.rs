@@ -8,38 +8,42 @@ use crate::library::{refusal, Library};
 use crate::met::Met;
 use crate::prng::Prng;
 use crate::report::{Check, Tally};
-use crate::stores::sound::{random_sale, KIND_AT};
+use crate::stores::sound::{index, random_sale, set_index, HEADS, KIND_AT};
 use reference::store::{BODY_AT, CELL_LEN, SALE};
 use reference::{settings, MRO, OPP, ROUNDS, TAG_LEN};
 
 /// A change of an argument that gives a ground, or says that it can't.
 type Spoil = fn(&mut Prng, &mut Call, Arg) -> bool;
 
-/// Every ground: the refusal's number, the argument that it lies in, and the change. That of 17 is a
-/// parcel's start, which the good calls have.
-const GROUNDS: [(u32, Arg, Spoil); 22] = [
-    (1, Mode, refused_number),
-    (2, Rounds, refused_number),
-    (3, Key, other_length),
-    (4, Nonce, other_length),
-    (5, Header, too_long),
-    (8, Parcel, too_short),
-    (6, Message, too_long),
-    (6, Parcel, too_long),
-    (7, Output, |_, call, output| call.lend(output, -1)),
-    (7, Words, |_, call, words| call.lend(words, -8)),
-    (9, Parcel, bad_tag),
-    (10, Block, other_length),
-    (13, Steps, too_long),
-    (12, Steps, bad_step),
-    (11, Alpha, refused_number),
-    (11, Beta, refused_number),
-    (11, Gamma, refused_number),
-    (14, Store, bad_length),
-    (14, Store, bad_kind),
-    (16, Machine, bad_numbers),
-    (15, Store, full),
-    (9, Store, bad_sale),
+/// Every ground: what it answers, the argument that it lies in, and the change. That of 17 is a parcel's
+/// start, which the good calls have. Two of one number stand in the order in which they are found.
+const GROUNDS: [(u64, Arg, Spoil); 24] = [
+    (refusal(1, 0), Mode, refused_number),
+    (refusal(2, 0), Rounds, refused_number),
+    (refusal(3, 0), Key, other_length),
+    (refusal(4, 0), Nonce, other_length),
+    (refusal(5, 0), Header, too_long),
+    (refusal(8, 0), Parcel, too_short),
+    (refusal(6, 0), Message, too_long),
+    (refusal(6, 0), Parcel, too_long),
+    (refusal(7, 0), Output, |_, call, output| {
+        call.lend(output, -1)
+    }),
+    (refusal(7, 0), Words, |_, call, words| call.lend(words, -8)),
+    (refusal(9, 0), Parcel, bad_tag),
+    (refusal(10, 0), Block, other_length),
+    (refusal(13, 0), Steps, too_long),
+    (refusal(12, 2), Steps, bad_step),
+    (refusal(11, 0), Alpha, refused_number),
+    (refusal(11, 0), Beta, refused_number),
+    (refusal(11, 0), Gamma, refused_number),
+    (refusal(18, 0), Store, bad_length),
+    (refusal(19, 1), Store, bad_index),
+    (refusal(20, 1), Store, bad_kind),
+    (refusal(20, 2), Store, missing_cell),
+    (refusal(16, 0), Machine, bad_numbers),
+    (refusal(15, 0), Store, full),
+    (refusal(9, 1), Store, bad_sale),
 ];
 
 /// All sets of grounds of all calls, and all round counts. Every refusal of every call has to be met.
@@ -111,30 +115,20 @@ impl Run {
     /// Each set of grounds on the call `good`, which answers `done` where none is set.
     fn all_sets(&mut self, good: &Call, done: u64) {
         let entry = good.entry;
-        let of = |&number: &u32| GROUNDS.into_iter().filter(move |ground| ground.0 == number);
+        let has = |number| move |ground: &(u64, Arg, Spoil)| ground.0 >> 32 == u64::from(number);
+        let of = |&number: &u32| GROUNDS.into_iter().filter(has(number));
         let grounds = entry.refused.iter().flat_map(of);
         let grounds: Vec<_> = grounds.filter(|ground| entry.takes(ground.1)).collect();
         for set in 0..1u32 << grounds.len() {
             let chosen = (0..grounds.len()).filter(|i| set >> i & 1 == 1);
             let mut chosen = chosen.map(|i| grounds[i]).peekable();
-            let wanted = chosen
-                .peek()
-                .map_or(done, |&(number, arg, _)| answer(number, arg));
+            let wanted = chosen.peek().map_or(done, |&(answer, ..)| answer);
             let mut call = good.clone();
             if chosen.all(|(_, arg, spoil)| spoil(&mut self.prng, &mut call, arg)) {
                 self.check.answers(&call, wanted);
                 self.met.add(&call, wanted);
             }
         }
-    }
-}
-
-/// What a ground answers: with the place of the bad step, or with the cell of the bad sale.
-fn answer(number: u32, arg: Arg) -> u64 {
-    match (number, arg) {
-        (12, _) => refusal(12, 2),
-        (9, Store) => refusal(9, 1),
-        _ => refusal(number, 0),
     }
 }
 
@@ -200,10 +194,23 @@ fn bad_length(_: &mut Prng, call: &mut Call, store: Arg) -> bool {
     true
 }
 
-/// Format looks at no kind.
-fn bad_kind(_: &mut Prng, call: &mut Call, store: Arg) -> bool {
-    call[store][CELL_LEN + KIND_AT] = 3;
-    call.entry.name != FORMAT.name
+/// That of cell 1, which ends the chain of sales.
+fn bad_index(prng: &mut Prng, call: &mut Call, store: Arg) -> bool {
+    let cells = call[store].len() / CELL_LEN;
+    let past = prng.pick(&[1, cells, cells + 1, 65_535]);
+    set_index(&mut call[store], CELL_LEN, past);
+    true
+}
+
+fn bad_kind(prng: &mut Prng, call: &mut Call, store: Arg) -> bool {
+    call[store][CELL_LEN + KIND_AT] = prng.pick(&[0, 2, 3, 255]);
+    true
+}
+
+/// Cell 1 becomes the first sale, and cell 2 is in no chain.
+fn missing_cell(_: &mut Prng, call: &mut Call, store: Arg) -> bool {
+    set_index(&mut call[store], HEADS[0], 1);
+    true
 }
 
 /// To take, those of cell 1; else those of no cell.
@@ -216,11 +223,14 @@ fn bad_numbers(_: &mut Prng, call: &mut Call, machine: Arg) -> bool {
     true
 }
 
-/// Cell 3 becomes the first sale.
+/// Cell 3 goes before the first sale.
 fn full(_: &mut Prng, call: &mut Call, store: Arg) -> bool {
     let store = &mut call[store];
-    store[..4].copy_from_slice(&[3, 0, 0, 0]);
-    store[3 * CELL_LEN..][..3].copy_from_slice(&[2, 0, SALE]);
+    let first = index(store, HEADS[0]);
+    set_index(store, HEADS[0], 3);
+    set_index(store, HEADS[1], 0);
+    set_index(store, 3 * CELL_LEN, first);
+    store[3 * CELL_LEN + KIND_AT] = SALE;
     true
 }
 

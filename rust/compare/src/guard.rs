@@ -120,7 +120,8 @@ fn stores(prng: &mut Prng, calls: &mut Vec<Call>, sound: &Sound) {
         }
         for (_, damage) in WAYS {
             let mut damaged = sound.clone();
-            damage(prng, &mut damaged);
+            let chain = prng.below(2);
+            damage(prng, &mut damaged, chain);
             calls.push(call.clone().with(Store, damaged.bytes));
         }
     }

@@ -267,6 +267,6 @@ impl<'a> Taken<'a> for usize {
 }
 
 /// The answer of a refused call.
-pub fn refusal(number: u32, place: u32) -> u64 {
-    u64::from(number) << 32 | u64::from(place)
+pub const fn refusal(number: u32, place: u32) -> u64 {
+    (number as u64) << 32 | place as u64
 }

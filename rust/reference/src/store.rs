@@ -31,12 +31,16 @@ const HEADS_LEN: usize = 4;
 /// Bytes of a record.
 const RECORD_LEN: usize = BODY_LEN - NONCE_LEN - TAG_LEN;
 
-/// A store that is not as it has to be.
-const FORM: u32 = 14;
 /// No free cell.
 const FULL: u32 = 15;
 /// A sale that is there already, or is not there.
 const NUMBERS: u32 = 16;
+/// A length that no store has.
+const LENGTH: u32 = 18;
+/// An index past the last cell, or of a cell reached before. The place is the cell that holds it.
+const INDEX: u32 = 19;
+/// A cell whose kind does not fit its chain, or that is in neither. The place is the cell.
+const KIND: u32 = 20;
 
 /// A sale as it is handed in.
 #[derive(Clone, Copy, Debug, Default, PartialEq, Eq)]
@@ -176,16 +180,9 @@ impl Store {
     fn parse(bytes: &[u8]) -> Result<Self, Refusal> {
         check_length(bytes)?;
         let cells = Cells::parse(bytes);
-        let [sales, free] = [0, 2].map(|head| cells.chain(index(&bytes[head..])));
-        let both = [&sales[..], &free].concat();
-        let past_the_last = both.iter().any(|&number| number >= cells.0.len());
-        let unfit = cells.unfit(&sales, SALE) || cells.unfit(&free, FREE);
-        let other_than_once = !cells.each_once(both);
-        check(&[
-            (past_the_last, FORM),
-            (unfit, FORM),
-            (other_than_once, FORM),
-        ])?;
+        let [sales, free] = [0, 2].map(|head| cells.walk(index(&bytes[head..])));
+        check_cell(INDEX, cells.first_stray(&[&sales[..], &free].concat()))?;
+        check_cell(KIND, cells.first_unfit([(SALE, &sales), (FREE, &free)]))?;
         Ok(Self {
             rest: bytes[HEADS_LEN..CELL_LEN].to_vec(),
             sales: cells.list(sales),
@@ -216,6 +213,9 @@ impl Store {
     }
 }
 
+/// A step of a walk: the cell that holds an index, and the index.
+type Step = (usize, usize);
+
 /// Every cell by its number, sound or not.
 struct Cells<'a>(Vec<Raw<'a>>);
 
@@ -236,39 +236,59 @@ impl<'a> Cells<'a> {
         Self(bytes.chunks_exact(CELL_LEN).map(raw).collect())
     }
 
-    /// The cells met from `head` on. One past the last cell is the last that is met, and a chain
-    /// that never ends is cut where some cell must have been met twice.
-    fn chain(&self, head: usize) -> Vec<usize> {
-        successors(Some(head), |&number| Some(self.0.get(number)?.next))
-            .take_while(|&number| number != 0)
+    /// The steps from `head` on. One past the last cell is the last step, and a walk that never ends is
+    /// cut where it must have come to some cell twice.
+    fn walk(&self, head: usize) -> Vec<Step> {
+        let next = |&(_, index): &Step| Some((index, self.0.get(index)?.next));
+        successors(Some((0, head)), next)
+            .take_while(|&(_, index)| index != 0)
             .take(self.0.len())
             .collect()
     }
 
-    /// Some cell of `chain` has another kind.
-    fn unfit(&self, chain: &[usize], kind: u8) -> bool {
-        let mut cells = chain.iter().filter_map(|&number| self.0.get(number));
-        cells.any(|cell| cell.kind != kind)
+    /// The holder of the first index past the last cell or of a cell that an earlier step came to.
+    fn first_stray(&self, steps: &[Step]) -> Option<usize> {
+        let mut places: Vec<usize> = (0..steps.len()).collect();
+        // Steps to one cell come together, the earliest first.
+        places.sort_by_key(|&place| steps[place].1);
+        let alike = |pair: &&[usize]| steps[pair[0]].1 == steps[pair[1]].1;
+        let again = places.windows(2).filter(alike).map(|pair| pair[1]);
+        let past = (0..steps.len()).filter(|&place| steps[place].1 >= self.0.len());
+        again.chain(past).min().map(|place| steps[place].0)
     }
 
-    /// Every cell but 0 is in `numbers`, and none is twice.
-    fn each_once(&self, mut numbers: Vec<usize>) -> bool {
-        numbers.sort_unstable();
-        numbers.into_iter().eq(1..self.0.len())
+    /// The first cell that is not, with the kind it has, among those that the two walks came to.
+    fn first_unfit(&self, walks: [(u8, &[Step]); 2]) -> Option<usize> {
+        let pairs = |(kind, steps): (u8, &[Step])| -> Vec<(usize, u8)> {
+            steps.iter().map(|&(_, index)| (index, kind)).collect()
+        };
+        let mut reached: Vec<(usize, u8)> = walks.into_iter().flat_map(pairs).collect();
+        reached.sort_unstable();
+        let fits = |number: usize| {
+            reached
+                .binary_search(&(number, self.0[number].kind))
+                .is_ok()
+        };
+        (1..self.0.len()).find(|&number| !fits(number))
     }
 
-    fn list(&self, chain: Vec<usize>) -> Vec<Cell> {
-        let cell = |number: usize| Cell {
+    fn list(&self, walk: Vec<Step>) -> Vec<Cell> {
+        let cell = |(_, number): Step| Cell {
             number,
             body: self.0[number].body.to_vec(),
         };
-        chain.into_iter().map(cell).collect()
+        walk.into_iter().map(cell).collect()
     }
 }
 
 fn check_length(store: &[u8]) -> Result<(), Refusal> {
     let allowed = STORE_LENS.contains(&store.len()) && store.len() % CELL_LEN == 0;
-    check(&[(!allowed, FORM)])
+    check(&[(!allowed, LENGTH)])
+}
+
+/// Refused with the cell where there is one.
+fn check_cell(number: u32, cell: Option<usize>) -> Result<(), Refusal> {
+    cell.map_or(Ok(()), |cell| Err((number, cell as u32)))
 }
 
 /// The index with which `bytes` begin.

@@ -69,8 +69,8 @@ fn a_formatted_store_is_chained_upward() {
 fn lengths() {
     for len in [0, 64, 127, 129, 65_472 + 63, 65_600] {
         let mut bytes = vec![0; len];
-        assert_eq!(format(&mut bytes), Err((14, 0)), "{len}");
-        assert_eq!(refusals(&bytes), [Some((14, 0)); 4], "{len}");
+        assert_eq!(format(&mut bytes), Err((18, 0)), "{len}");
+        assert_eq!(refusals(&bytes), [Some((18, 0)); 4], "{len}");
     }
     for len in [128, 192, 65_472, 65_536] {
         let mut bytes = vec![0xee; len];
@@ -153,19 +153,19 @@ fn order_of_the_checks() {
     let full = with(2, &[sale(1, 10, 1)]);
     let mut broken = full.clone();
     broken[CELL_LEN + 2] = 2;
-    for (store, grounds) in [(&full, [16, 15]), (&broken, [14, 14])] {
+    for (store, answers) in [(&full, [(16, 0), (15, 0)]), (&broken, [(20, 1); 2])] {
         let mut lent = store.clone();
         let taking = |key, lent: &mut [u8], number| take(key, lent, &sale(number, 1, 1));
         assert_eq!(taking(&KEY[1..], &mut lent, 1), Err((3, 0)));
-        assert_eq!(taking(&KEY, &mut lent, 1), Err((grounds[0], 0)));
-        assert_eq!(taking(&KEY, &mut lent, 2), Err((grounds[1], 0)));
+        assert_eq!(taking(&KEY, &mut lent, 1), Err(answers[0]));
+        assert_eq!(taking(&KEY, &mut lent, 2), Err(answers[1]));
         assert_eq!(&lent, store);
     }
     assert_eq!(cancel(&[], &mut broken, 7, 1), Err((3, 0)));
-    assert_eq!(cancel(&KEY, &mut broken, 7, 1), Err((14, 0)));
+    assert_eq!(cancel(&KEY, &mut broken, 7, 1), Err((20, 1)));
     assert_eq!(total(&[0; 33], &broken), Err((3, 0)));
-    assert_eq!(total(&OTHER_KEY, &broken), Err((14, 0)));
-    assert_eq!(read(&broken, 7, 1), Err((14, 0)));
+    assert_eq!(total(&OTHER_KEY, &broken), Err((20, 1)));
+    assert_eq!(read(&broken, 7, 1), Err((20, 1)));
 }
 
 #[test]
@@ -217,48 +217,59 @@ fn stores_of_another_form() {
         refusals(&chained(sound)),
         [None, SOUND[1], Some((9, 1)), SOUND[3]]
     );
-    let broken = [
-        (
-            "a head past the last cell",
-            ([4, 2], [(0, 1), (3, 0), (0, 0)]),
-        ),
-        (
-            "a head with a high byte",
-            ([1, 258], [(0, 1), (3, 0), (0, 0)]),
-        ),
-        (
-            "a next past the last cell",
-            ([1, 2], [(0, 1), (3, 0), (4, 0)]),
-        ),
-        (
-            "a next far past it",
-            ([1, 2], [(65_535, 1), (3, 0), (0, 0)]),
-        ),
-        ("a head that is 0", ([1, 0], [(0, 1), (3, 0), (0, 0)])),
-        ("a next that is 0", ([1, 2], [(0, 1), (0, 0), (0, 0)])),
-        ("a cell behind itself", ([1, 2], [(0, 1), (3, 0), (3, 0)])),
-        ("a cycle", ([1, 2], [(0, 1), (3, 0), (2, 0)])),
-        ("a cycle apart", ([1, 0], [(0, 1), (3, 0), (2, 0)])),
-        ("a cell left out", ([1, 3], [(0, 1), (3, 0), (0, 0)])),
-        ("two heads alike", ([2, 2], [(0, 1), (3, 0), (0, 0)])),
-        ("a shared tail", ([1, 2], [(3, 1), (3, 0), (0, 0)])),
-        (
-            "the other chain behind a sale",
-            ([1, 0], [(2, 1), (3, 0), (0, 0)]),
-        ),
-        ("the chains exchanged", ([2, 1], [(0, 1), (3, 0), (0, 0)])),
-        ("kind 2 as a sale", ([1, 2], [(0, 2), (3, 0), (0, 0)])),
-        ("kind 0 as a sale", ([1, 2], [(0, 0), (3, 0), (0, 0)])),
-        ("kind 1 as free", ([1, 2], [(0, 1), (3, 0), (0, 1)])),
-        ("kind 255 as free", ([1, 2], [(0, 1), (3, 255), (0, 0)])),
-    ];
-    for (name, cells) in broken {
-        assert_eq!(refusals(&chained(cells)), [Some((14, 0)); 4], "{name}");
+    for (name, form, answer) in BROKEN {
+        assert_eq!(refusals(&chained(form)), [Some(answer); 4], "{name}");
     }
 }
 
+/// A store's heads, and its three cells by their next index and kind.
+type Form = ([u16; 2], [(u16, u8); 3]);
+
+/// What is wrong, the store, and the answer. Sound would be ([1, 2], [(0, 1), (3, 0), (0, 0)]).
+#[rustfmt::skip]
+const BROKEN: [(&str, Form, (u32, u32)); 38] = [
+    ("sales past the last cell", ([4, 2], [(0, 1), (3, 0), (0, 0)]), (19, 0)),
+    ("free past the last cell", ([1, 4], [(0, 1), (3, 0), (0, 0)]), (19, 0)),
+    ("a head with a high byte", ([1, 258], [(0, 1), (3, 0), (0, 0)]), (19, 0)),
+    ("both heads past it", ([4, 4], [(0, 1), (3, 0), (0, 0)]), (19, 0)),
+    ("a sale's next past it", ([1, 2], [(4, 1), (3, 0), (0, 0)]), (19, 1)),
+    ("a sale's next far past it", ([1, 2], [(65_535, 1), (3, 0), (0, 0)]), (19, 1)),
+    ("a free next past it", ([1, 2], [(0, 1), (4, 0), (0, 0)]), (19, 2)),
+    ("the last next past it", ([1, 2], [(0, 1), (3, 0), (4, 0)]), (19, 3)),
+    ("past it in both chains", ([3, 1], [(4, 0), (0, 0), (4, 1)]), (19, 3)),
+    ("a sale behind itself", ([1, 2], [(1, 1), (3, 0), (0, 0)]), (19, 1)),
+    ("a free cell behind itself", ([1, 2], [(0, 1), (3, 0), (3, 0)]), (19, 3)),
+    ("a cycle of sales", ([2, 0], [(2, 1), (3, 1), (1, 1)]), (19, 1)),
+    ("a cycle of free cells", ([1, 2], [(0, 1), (3, 0), (2, 0)]), (19, 3)),
+    ("a tail into the chain's middle", ([0, 2], [(3, 0), (3, 0), (1, 0)]), (19, 1)),
+    ("a cycle in both chains", ([3, 1], [(1, 0), (0, 0), (3, 1)]), (19, 3)),
+    ("two heads alike", ([2, 2], [(0, 1), (3, 0), (0, 0)]), (19, 0)),
+    ("a sale before the first free cell", ([1, 2], [(2, 1), (3, 0), (0, 0)]), (19, 0)),
+    ("a sale before another free cell", ([1, 2], [(3, 1), (3, 0), (0, 0)]), (19, 2)),
+    ("a free cell before a sale", ([1, 2], [(0, 1), (1, 0), (0, 0)]), (19, 2)),
+    ("free cells into sales", ([1, 2], [(0, 1), (3, 0), (1, 0)]), (19, 3)),
+    ("a misfit and a broken walk", ([2, 3], [(0, 0), (1, 1), (3, 0)]), (19, 3)),
+    ("a cell left out and a broken walk", ([2, 0], [(0, 1), (2, 1), (0, 0)]), (19, 2)),
+    ("sales that are 0", ([0, 2], [(0, 1), (3, 0), (0, 0)]), (20, 1)),
+    ("free that is 0", ([1, 0], [(0, 1), (3, 0), (0, 0)]), (20, 2)),
+    ("both heads 0", ([0, 0], [(0, 1), (3, 0), (0, 0)]), (20, 1)),
+    ("a next that is 0", ([1, 2], [(0, 1), (0, 0), (0, 0)]), (20, 3)),
+    ("a cycle apart", ([1, 0], [(0, 1), (3, 0), (2, 0)]), (20, 2)),
+    ("a cell left out", ([1, 3], [(0, 1), (3, 0), (0, 0)]), (20, 2)),
+    ("one left out that leads past the last", ([1, 3], [(0, 1), (9, 0), (0, 0)]), (20, 2)),
+    ("free cells among the sales", ([1, 0], [(2, 1), (3, 0), (0, 0)]), (20, 2)),
+    ("the chains exchanged", ([2, 1], [(0, 1), (3, 0), (0, 0)]), (20, 1)),
+    ("kind 0 as a sale", ([1, 2], [(0, 0), (3, 0), (0, 0)]), (20, 1)),
+    ("kind 2 as a sale", ([1, 2], [(0, 2), (3, 0), (0, 0)]), (20, 1)),
+    ("kind 1 as free", ([1, 2], [(0, 1), (3, 0), (0, 1)]), (20, 3)),
+    ("kind 255 as free", ([1, 2], [(0, 1), (3, 255), (0, 0)]), (20, 2)),
+    ("two misfits against the chain's order", ([3, 0], [(0, 1), (1, 0), (2, 255)]), (20, 2)),
+    ("a misfit below a cell left out", ([1, 2], [(0, 2), (0, 0), (0, 0)]), (20, 1)),
+    ("a cell left out below a misfit", ([0, 2], [(0, 0), (3, 0), (0, 9)]), (20, 1)),
+];
+
 /// The two heads, and three cells by their next index and kind. No sale in it opens.
-fn chained((heads, cells): ([u16; 2], [(u16, u8); 3])) -> Vec<u8> {
+fn chained((heads, cells): Form) -> Vec<u8> {
     let [sales, free] = heads.map(u16::to_le_bytes);
     let mut first = vec![[sales[0], sales[1], free[0], free[1]]];
     first.extend(cells.map(|(next, kind)| [next as u8, (next >> 8) as u8, kind, 0xee]));

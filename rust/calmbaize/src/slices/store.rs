@@ -1,6 +1,8 @@
 //! The calls of a sale store.
 //!
-//! Each checks the store's form first, so that any bytes may be lent as a store.
+//! Each checks the store's form first, so that any bytes may be lent as a store: its length (18), its
+//! indices (19, with the cell that holds the first wrong one) and its kinds (20, with the first cell
+//! that is wrong).
 
 use super::value;
 use crate::{ffi, Refusal, Sale, NONCE_TAIL_LEN};
@@ -11,7 +13,7 @@ use crate::{ffi, Refusal, Sale, NONCE_TAIL_LEN};
 ///
 /// # Errors
 ///
-/// Ground 14 where the length is not a store's. No byte of `store` changes then.
+/// Ground 18 where the length is not a store's. No byte of `store` changes then.
 ///
 /// # Examples
 ///
@@ -19,7 +21,7 @@ use crate::{ffi, Refusal, Sale, NONCE_TAIL_LEN};
 /// use calmbaize::{slices::store, Ground};
 ///
 /// assert_eq!(store::format(&mut [0xaa; 256]), Ok(()));
-/// assert_eq!(store::format(&mut [0xaa; 255]), Err(Ground::StoreForm.into()));
+/// assert_eq!(store::format(&mut [0xaa; 255]), Err(Ground::StoreLength.into()));
 /// ```
 pub fn format(store: &mut [u8]) -> Result<(), Refusal> {
     ffi::decode(call!(calmbaize_store_format; &mut store)).map(|_| ())
@@ -31,8 +33,8 @@ pub fn format(store: &mut [u8]) -> Result<(), Refusal> {
 ///
 /// # Errors
 ///
-/// The first of the grounds 3, 14, 16 and 15 that holds, in this order. No byte of `store` changes
-/// then.
+/// The first of the grounds 3, 18, 19, 20, 16 and 15 that holds, in this order. No byte of `store`
+/// changes then.
 ///
 /// # Examples
 ///
@@ -68,8 +70,8 @@ pub fn take(
 ///
 /// # Errors
 ///
-/// The first of the grounds 3, 14, 16 and 9 that holds, in this order; the place of 9 is the cell.
-/// No byte of `store` changes then.
+/// The first of the grounds 3, 18, 19, 20, 16 and 9 that holds, in this order; the place of 9 is the
+/// cell. No byte of `store` changes then.
 ///
 /// # Examples
 ///
@@ -95,8 +97,8 @@ pub fn cancel(key: &[u8], store: &mut [u8], machine: u32, sale: u32) -> Result<u
 ///
 /// # Errors
 ///
-/// The first of the grounds 3, 14 and 9 that holds, in this order. 9 is for the first sale in the
-/// chain, coin or not, that won't open; its place is the cell.
+/// The first of the grounds 3, 18, 19, 20 and 9 that holds, in this order. 9 is for the first sale in
+/// the chain, coin or not, that won't open; its place is the cell.
 ///
 /// # Examples
 ///
@@ -124,7 +126,7 @@ pub fn total(key: &[u8], store: &[u8]) -> Result<u64, Refusal> {
 ///
 /// # Errors
 ///
-/// The first of the grounds 14 and 16 that holds, in this order.
+/// The first of the grounds 18, 19, 20 and 16 that holds, in this order.
 ///
 /// # Examples
 ///

@@ -17,6 +17,7 @@ commands:
   total   print the cash total
   read    print a sale as it is sealed, and opened
   list    print all sales, the last one taken first
+  check   say whether the store is broken, where, and what to do
 
 'calmbaize store COMMAND --help' has the options of each. FILE is a path; '-' is
 not standard input here.
@@ -117,6 +118,25 @@ options:
 {key}{NUMBERS}  -o, --output FILE        write the 61 raw bytes there instead
 {HELP}
 {FIELDS}"
+    )
+}
+
+pub fn check() -> String {
+    format!(
+        "\
+Checks the form of a store, without a key. Of one that is right it prints the
+cells, cell 0 among them, such as
+cells 8 sales 2 free 5
+
+Of a broken one it prints the first thing that is wrong, the 64 bytes of that
+cell, and what to do, and ends with 1. It checks in this order: the length (18);
+the index of each cell along the sales and then along the free cells (19); each
+cell's kind, and whether it is in a chain (20). No sale is opened: see list.
+
+usage: calmbaize store check FILE
+
+options:
+{HELP}"
     )
 }
 

@@ -1,5 +1,6 @@
 //! The tool as a user runs it.
 
+mod check;
 mod convert;
 mod engine;
 mod files;

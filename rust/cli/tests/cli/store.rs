@@ -196,18 +196,18 @@ fn lengths_of_a_store() {
         if right {
             assert_eq!(succeeds(&format, b""), b"");
         } else {
-            till.refuses(&format, 14);
+            till.refuses(&format, 18);
             assert!(!Path::new(&till.file).exists());
         }
     }
     let till = Till::new("lengths");
     till.refuses(
         &till.args(&["format", "--cells", "18446744073709551615"]),
-        14,
+        18,
     );
     for len in [0, 64, 127, 129, 65_537, 65_600, 200_000] {
         fs::write(&till.file, vec![0; len]).unwrap();
-        till.refuses(&till.args(&["format", "--force"]), 14);
+        till.refuses(&till.args(&["format", "--force"]), 18);
     }
 }
 
@@ -215,7 +215,18 @@ fn lengths_of_a_store() {
 fn what_is_no_store_is_refused() {
     let till = Till::new("no-store");
     let named = ["--machine", "11", "--sale", "1"];
-    for content in [vec![], b"150 cents".to_vec(), vec![1; 128], vec![0; 65_600]] {
+    let length = "store is not 128 to 65,536 bytes in cells of 64\n";
+    let index = "index held by cell 0 is past the last cell, or of a cell reached before; \
+                 see 'calmbaize store check'\n";
+    let kind = "cell 1 is in neither chain, or its kind does not fit its chain; \
+                see 'calmbaize store check'\n";
+    for (content, number, text) in [
+        (vec![], 18, length),
+        (b"150 cents".to_vec(), 18, length),
+        (vec![0; 65_600], 18, length),
+        (vec![1; 128], 19, index),
+        (vec![0; 128], 20, kind),
+    ] {
         fs::write(&till.file, content).unwrap();
         let calls = [
             till.keyed(&sale_options("1", "150", "coin")),
@@ -225,11 +236,8 @@ fn what_is_no_store_is_refused() {
             till.args(&["list"]),
         ];
         for call in calls {
-            let error = till.refuses(&call, 14);
-            assert!(
-                error.contains(": store is not 128 to 65,536 bytes"),
-                "{error}"
-            );
+            let error = till.refuses(&call, number);
+            assert!(error.ends_with(&format!(": {text}")), "{error}");
         }
     }
     // A key of another length counts first.

@@ -3,7 +3,7 @@
 use crate::{fails, run, sealing, succeeds, KEY, NONCE};
 use calmbaize::Rounds;
 
-const COMMANDS: [&[&str]; 11] = [
+const COMMANDS: [&[&str]; 12] = [
     &["seal"],
     &["open"],
     &["convert"],
@@ -15,6 +15,7 @@ const COMMANDS: [&[&str]; 11] = [
     &["store", "total"],
     &["store", "read"],
     &["store", "list"],
+    &["store", "check"],
 ];
 
 fn help(command: &[&str]) -> String {
@@ -23,7 +24,7 @@ fn help(command: &[&str]) -> String {
 }
 
 /// Arguments, and what the error says.
-const WRONG: [(&[&str], &str); 38] = [
+const WRONG: [(&[&str], &str); 40] = [
     (&[], "no command"),
     (&["wrap"], "unknown command 'wrap'"),
     (&["seal"], "--key or --key-file is needed"),
@@ -83,6 +84,11 @@ const WRONG: [(&[&str], &str); 38] = [
     (&["seal", "FILE"], "unknown option 'FILE'"),
     (&["store", "list"], "FILE is needed"),
     (&["store", "list", "-"], "unknown option '-'"),
+    (&["store", "check"], "FILE is needed"),
+    (
+        &["store", "check", "a", "--key=00"],
+        "unknown option '--key'",
+    ),
     (&["store", "list", "a", "b"], "more than one FILE"),
     (
         &["store", "list", "a", "--sale=1"],
@@ -136,7 +142,12 @@ fn no_short_option_takes_a_key() {
         let help = help(command);
         let mut lines = help.lines();
         let secret = lines.find(|line| line.contains("--key HEX") || line.contains("--start HEX"));
-        assert_eq!(secret.is_none(), command == ["store", "format"], "{help}");
+        let keyless = [["store", "format"], ["store", "check"]];
+        assert_eq!(
+            secret.is_none(),
+            keyless.iter().any(|c| c == command),
+            "{help}"
+        );
         if let Some(secret) = secret {
             assert!(secret.starts_with("      --"), "{help}");
             assert!(lines.next().unwrap().contains("list of processes"));

@@ -8,7 +8,7 @@ use crate::met::Met;
 use crate::prng::Prng;
 use crate::report::{Check, Tally};
 use crate::stores::shapes;
-use crate::stores::sound::{sealed, Sound};
+use crate::stores::sound::{sealed, Sound, SALES};
 use crate::stores::ways::{Effect, WAYS};
 use reference::store::{BODY_AT, BODY_LEN, CELL_LEN, STORE_LENS};
 
@@ -59,7 +59,7 @@ impl Run {
     }
 
     fn one_by_one(&mut self, prng: &mut Prng) {
-        let mut done = [0; WAYS.len()];
+        let mut done = [[0; 2]; WAYS.len()];
         let small = [2, 3, 4, 5, 6, 9, 17].repeat(4);
         for cells in small.into_iter().chain([65, 257, 300, 1024]) {
             for sales in [0, 1, cells / 2, cells - 2, cells - 1] {
@@ -68,18 +68,23 @@ impl Run {
             }
         }
         for ((name, _), done) in WAYS.iter().zip(done) {
-            self.check
-                .record(done > 0, || format!("{name}: not done once"));
+            self.check.record(!done.contains(&0), || {
+                format!("{name}: done {done:?} times")
+            });
         }
     }
 
-    /// All ways that `sound` has room for; `done` counts them.
-    fn all_ways(&mut self, prng: &mut Prng, sound: &Sound, done: &mut [u64; WAYS.len()]) {
+    /// All ways that `sound` has room for, in each chain; `done` counts them.
+    fn all_ways(&mut self, prng: &mut Prng, sound: &Sound, done: &mut [[u64; 2]; WAYS.len()]) {
         let calls = sound.calls(prng);
         let before: Vec<u64> = calls.iter().map(|call| self.compare(call)).collect();
-        for ((name, damage), done) in WAYS.iter().zip(done) {
+        let each = WAYS.iter().zip(done).flat_map(|(way, done)| {
+            let chains = done.iter_mut().enumerate();
+            chains.map(move |(chain, done)| (way, chain, done))
+        });
+        for ((name, damage), chain, done) in each {
             let mut damaged = sound.clone();
-            let Some(effect) = damage(prng, &mut damaged) else {
+            let Some(effect) = damage(prng, &mut damaged, chain) else {
                 continue;
             };
             *done += 1;
@@ -102,8 +107,10 @@ impl Run {
             for (n, (_, first)) in WAYS.iter().enumerate() {
                 for (_, second) in &WAYS[n..] {
                     let mut damaged = sound.clone();
-                    first(prng, &mut damaged);
-                    second(prng, &mut damaged);
+                    for damage in [first, second] {
+                        let chain = prng.below(2);
+                        damage(prng, &mut damaged, chain);
+                    }
                     for call in &calls {
                         self.compare(&call.clone().with(Arg::Store, damaged.bytes.clone()));
                     }
@@ -121,8 +128,11 @@ impl Run {
                 store.bytes.resize(len, 0);
                 for call in store.calls(prng) {
                     let answer = self.compare(&call);
-                    let number = answer >> 32;
-                    let passed = number == 3 || (number == 14) != allowed(len);
+                    let passed = match answer >> 32 {
+                        3 => true,
+                        18 => answer == refusal(18, 0) && !allowed(len),
+                        number => number < 18 && allowed(len),
+                    };
                     self.check
                         .record(passed, || format!("{call}: answer {answer:#x}"));
                 }
@@ -133,7 +143,7 @@ impl Run {
     /// A sale with any bit changed opens for no one, and keeps the numbers that it then has.
     fn every_bit(&mut self, prng: &mut Prng) {
         let sound = Sound::random(prng, 4, 2);
-        let cell = sound.chains[0][1];
+        let cell = sound.chains[SALES][1];
         for bit in 0..8 * BODY_LEN {
             let mut damaged = sound.clone();
             let body = damaged.body_mut(cell);
@@ -158,7 +168,7 @@ impl Run {
             store.sold[second].machine = store.sold[first].machine;
             store.sold[second].sale = store.sold[first].sale;
             let body = sealed(&store.key, &store.sold[second]);
-            let [one, other] = [first, second].map(|place| store.chains[0][place]);
+            let [one, other] = [first, second].map(|place| store.chains[SALES][place]);
             store.body_mut(other).copy_from_slice(&body);
             let amount = store.sold[first].amount.into();
             self.alike_answers(&store, first, [amount, 0]);
@@ -176,7 +186,7 @@ impl Run {
     /// The calls on a store with two sales alike, by the place of the first of them and what cancel
     /// and total have to answer.
     fn alike_answers(&mut self, store: &Sound, first: usize, wanted: [u64; 2]) {
-        let offset = CELL_LEN * store.chains[0][first] + BODY_AT;
+        let offset = CELL_LEN * store.chains[SALES][first] + BODY_AT;
         for (entry, wanted) in [
             (&CANCEL, wanted[0]),
             (&TOTAL, wanted[1]),
@@ -200,8 +210,8 @@ fn wanted(call: &Call, sound: &Sound, before: u64, effect: Effect) -> Option<u64
     Some(match effect {
         Effect::Other => return None,
         _ if entry.name == FORMAT.name && allowed(call[Arg::Store].len()) => 0,
-        _ if entry.name == FORMAT.name => refusal(14, 0),
-        Effect::Form if before != refusal(3, 0) => refusal(14, 0),
+        _ if entry.name == FORMAT.name => refusal(18, 0),
+        Effect::Form(number, cell) if before != refusal(3, 0) => refusal(number, cell as u32),
         Effect::Shut(shut)
             if before >> 32 == 0
                 && entry.refuses(9)

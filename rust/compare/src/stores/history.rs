@@ -8,7 +8,7 @@ use crate::library::{refusal, Library};
 use crate::met::Met;
 use crate::prng::Prng;
 use crate::report::{Check, Tally};
-use crate::stores::sound::random_sale;
+use crate::stores::sound::{random_sale, set_index, KIND_AT};
 use reference::store::{Sale, BODY_AT, CELL_LEN, COIN};
 
 /// Cells of the stores that get sales under one key.
@@ -207,7 +207,7 @@ impl<'a> History<'a> {
         self.answers(&self.on(&READ, 0, numbers), wanted);
     }
 
-    /// Every call with a key of another length, with a part of the store, and with both.
+    /// Every call with a key of another length, with a broken store, and with both.
     fn refused(&mut self) {
         let (machine, sale) = self.numbers_often_there();
         let sold = random_sale(self.prng, machine, sale);
@@ -215,15 +215,26 @@ impl<'a> History<'a> {
         let key = self.prng.bytes(key);
         let cut = CELL_LEN * self.prng.below(self.cells()) + 1 + self.prng.below(CELL_LEN - 1);
         let part = self.store[..self.prng.pick(&[0, CELL_LEN, cut, cut])].to_vec();
+        // The index behind the last sale, and the kind of any cell.
+        let last = self.ledger.last().map_or(0, |line| line.cell);
+        let mut past = self.store.clone();
+        set_index(&mut past, CELL_LEN * last as usize, self.cells());
+        let cell = 1 + self.prng.below(self.cells() - 1);
+        let mut misfit = self.store.clone();
+        misfit[CELL_LEN * cell + KIND_AT] = 2;
+        let broken = [(part, 18, 0), (past, 19, last), (misfit, 20, cell as u32)];
         for entry in calls::of_store() {
             let on = |key: &[u8], store: &[u8]| on_store(entry, key, store, &sold);
-            let cut = on(&self.keys[0], &part);
-            let short = entry
-                .takes(Key)
-                .then(|| [on(&key, &self.store), on(&key, &part)]);
-            self.answers(&cut, refusal(14, 0));
-            for call in short.into_iter().flatten() {
-                self.answers(&call, refusal(3, 0));
+            for (store, number, place) in &broken {
+                if entry.refuses(*number) {
+                    self.answers(&on(&self.keys[0], store), refusal(*number, *place));
+                }
+            }
+            if entry.takes(Key) {
+                let sound = self.store.clone();
+                for store in broken.iter().map(|broken| &broken.0).chain([&sound]) {
+                    self.answers(&on(&key, store), refusal(3, 0));
+                }
             }
         }
     }

@@ -4,15 +4,22 @@ use crate::call::Call;
 use crate::calls::{of_store, on_store};
 use crate::entry::Arg;
 use crate::prng::Prng;
-use reference::store::{Sale, BODY_AT, BODY_LEN, CELL_LEN, FREE, ROUNDS, SALE};
+use reference::store::{self, Sale, BODY_AT, BODY_LEN, CELL_LEN, ROUNDS, SALE};
 use reference::{seal_under, Start, MRO, NONCE_LEN};
 
 /// Where in a cell its kind is.
 pub const KIND_AT: usize = 2;
 /// Where in cell 0 the first sale's index is, and the first free index.
 pub const HEADS: [usize; 2] = [0, 2];
+/// The numbers of the two chains.
+pub const SALES: usize = 0;
+pub const FREE: usize = 1;
 /// The kinds of the two chains.
-const KINDS: [u8; 2] = [SALE, FREE];
+const KINDS: [u8; 2] = [SALE, store::FREE];
+
+/// Where an index stands: the chain, and the place in it of the cell whose index it is. The 0 behind the
+/// last cell has a place too.
+pub type Spot = (usize, usize);
 
 /// A store that is as it has to be, and what it was made of.
 #[derive(Clone)]
@@ -38,25 +45,44 @@ impl Sound {
             chains: [order, free],
             sold: (0..sales as u32).map(|n| random_sale(prng, 7, n)).collect(),
         };
-        for chain in [0, 1] {
+        for chain in [SALES, FREE] {
             store.link(chain);
         }
         for n in 0..sales {
             let body = sealed(&store.key, &store.sold[n]);
-            store.body_mut(store.chains[0][n]).copy_from_slice(&body);
+            store
+                .body_mut(store.chains[SALES][n])
+                .copy_from_slice(&body);
         }
         store
     }
 
     /// Writes the indices and the kinds of a chain.
     fn link(&mut self, chain: usize) {
-        let mut holder = HEADS[chain];
-        for cell in self.chains[chain].clone() {
-            set_index(&mut self.bytes, holder, cell);
-            holder = CELL_LEN * cell;
-            self.bytes[holder + KIND_AT] = KINDS[chain];
+        let cells = self.chains[chain].clone();
+        for (place, &cell) in cells.iter().chain([&0]).enumerate() {
+            let offset = self.offset((chain, place));
+            set_index(&mut self.bytes, offset, cell);
         }
-        set_index(&mut self.bytes, holder, 0);
+        for cell in cells {
+            self.bytes[CELL_LEN * cell + KIND_AT] = KINDS[chain];
+        }
+    }
+
+    /// The cell that holds an index.
+    pub fn holder(&self, (chain, place): Spot) -> usize {
+        match place {
+            0 => 0,
+            _ => self.chains[chain][place - 1],
+        }
+    }
+
+    /// Where in the store an index stands.
+    pub fn offset(&self, spot: Spot) -> usize {
+        match spot {
+            (chain, 0) => HEADS[chain],
+            _ => CELL_LEN * self.holder(spot),
+        }
     }
 
     /// The number of cells.
@@ -73,7 +99,7 @@ impl Sound {
     pub fn cell_of(&self, machine: u32, sale: u32) -> Option<usize> {
         let same = |sold: &Sale| (sold.machine, sold.sale) == (machine, sale);
         let place = self.sold.iter().position(same)?;
-        Some(self.chains[0][place])
+        Some(self.chains[SALES][place])
     }
 
     /// Every call on this store: those on a sale for its first, its last and one that it has not, those

@@ -10,7 +10,7 @@ use Rattle.chains.proofs.sound.walk_both.Statement.{statement}
 use Rattle.chains.proofs.sound.walk_both.Tie as tie
 use Rattle.chains.proofs.sound.walk_both.Reads as reads
 use Rattle.chains.proofs.sound.walk_both.Lts as lts
-use Rattle.cells.proofs.fields.front_of.Reads as front-of-reads
+use Rattle.cells.proofs.fields.link_of.Reads as link-of-reads
 use Rattle.cells.proofs.fields.index_at.Reads as index-at-reads
 
 abbrev Inv-loop : tie.InvT-loop
@@ -42,14 +42,14 @@ loop-holds c =
     record { sales = []; spare = []; of-sales = sym (c .before .index-at .ensures); of-spare = sym (c .index-at2 .ensures); many = omega arith }
 
 -- src/sound.rt:39:13
-front-of-requires : tie.Need-front-of-requires Inv-loop μ-loop
+link-of-requires : tie.Need-link-of-requires Inv-loop μ-loop
 unfolding cells
-front-of-requires c κs = omega arith
+link-of-requires c κs = omega arith
 
 -- src/sound.rt:40:13
-front-of-requires-2 : tie.Need-front-of-requires-2 Inv-loop μ-loop
+link-of-requires-2 : tie.Need-link-of-requires-2 Inv-loop μ-loop
 unfolding cells
-front-of-requires-2 c κs = omega arith
+link-of-requires-2 c κs = omega arith
 
 -- src/sound.rt:23:9
 loop-less : tie.Need-loop-less Inv-loop μ-loop
@@ -59,10 +59,10 @@ loop-less c = omega arith
 loop-again : tie.Need-loop-again Inv-loop μ-loop
 unfolding cells
 loop-again c =
-    let l = c .before .before .before .before .before .before .before .before .before .loop in
-    let a = c .before .before .before .front-of .ensures in
-    let b = c .before .before .front-of2 .ensures in
-    rw (a .0, b .0) (both-more _ (l .sold) (l .free) (l .left) (l .inv) (c .before .before .before .before .before .before .before .before .if1 .left) (c .before .before .before .before .before .before .before .if2 .left) (omega arith) (omega arith) (sym (a .1) ∙ c .before .if6 .left) (sym (b .1) ∙ c .if7 .left) (omega arith))
+    let l = c .before .before .before .before .before .before .before .before .before .before .before .loop in
+    let a = c .before .before .before .before .before .link-of .ensures in
+    let b = c .before .before .before .before .link-of2 .ensures in
+    rw (a .0, b .0) (both-more _ (l .sold) (l .free) (l .left) (l .inv) (c .before .before .before .before .before .before .before .before .before .before .if1 .left) (c .before .before .before .before .before .before .before .before .before .if2 .left) (omega arith) (omega arith) (sym (a .1) ∙ c .before .before .if6 .left) (sym (b .1) ∙ c .if7 .left) (omega arith))
 
 -- src/sound.rt:15:1
 returns : tie.Need-returns Inv-loop μ-loop
@@ -102,8 +102,8 @@ walk-both-spec =
     index-at-requires
     index-at-requires-2
     loop-holds
-    front-of-requires
-    front-of-requires-2
+    link-of-requires
+    link-of-requires-2
     loop-less
     loop-again
     returns

@@ -10,7 +10,7 @@ use Rattle.chains.proofs.sound.walk_one.Statement.{statement}
 use Rattle.chains.proofs.sound.walk_one.Tie as tie
 use Rattle.chains.proofs.sound.walk_one.Reads as reads
 use Rattle.chains.proofs.sound.walk_one.Lts as lts
-use Rattle.cells.proofs.fields.front_of.Reads as front-of-reads
+use Rattle.cells.proofs.fields.link_of.Reads as link-of-reads
 
 abbrev Inv-loop : tie.InvT-loop
 Inv-loop s first kind most cells left₀ at₀ left at = OneUpTo s kind first at most left
@@ -23,9 +23,9 @@ loop-holds : tie.Need-loop-holds Inv-loop μ-loop
 loop-holds c = record { chain = []; segment = refl; many = omega arith }
 
 -- src/sound.rt:76:13
-front-of-requires : tie.Need-front-of-requires Inv-loop μ-loop
+link-of-requires : tie.Need-link-of-requires Inv-loop μ-loop
 unfolding cells
-front-of-requires c κs = omega arith
+link-of-requires c κs = omega arith
 
 -- src/sound.rt:80:9
 sub-left : tie.Need-sub-left Inv-loop μ-loop
@@ -39,9 +39,9 @@ loop-less c = omega arith
 loop-again : tie.Need-loop-again Inv-loop μ-loop
 unfolding cells
 loop-again c =
-    let l = c .before .before .before .before .before .loop in
-    let front = c .before .front-of .ensures in
-    rw (front .0) (one-more _ _ _ (l .at) _ (l .left) (l .inv) (c .before .before .before .before .if1 .left) (omega arith) (sym (front .1) ∙ c .if4 .left) (omega arith))
+    let l = c .before .before .before .before .before .before .loop in
+    let link = c .before .before .link-of .ensures in
+    rw (link .0) (one-more _ _ _ (l .at) _ (l .left) (l .inv) (c .before .before .before .before .before .if1 .left) (omega arith) (sym (link .1) ∙ c .if4 .left) (omega arith))
 
 -- src/sound.rt:60:1
 returns : tie.Need-returns Inv-loop μ-loop
@@ -66,7 +66,7 @@ walk-one-spec =
     Inv-loop
     μ-loop
     loop-holds
-    front-of-requires
+    link-of-requires
     sub-left
     loop-less
     loop-again

@@ -19,7 +19,7 @@ use Rattle.chains.proofs.walk.walk.Reads as reads
 use Rattle.chains.proofs.walk.walk.Lts as lts
 use Rattle.chains.proofs.marks.is_marked.Reads as is-marked-reads
 use Rattle.chains.proofs.marks.mark.Reads as mark-reads
-use Rattle.cells.proofs.fields.front_of.Reads as front-of-reads
+use Rattle.cells.proofs.fields.link_of.Reads as link-of-reads
 use Rattle.chains.proofs.walk.lesser.Reads as lesser-reads
 
 abbrev Inv-loop : tie.InvT-loop
@@ -56,9 +56,9 @@ sub-left c =
     unmet-one (l .loop .marks) (l .loop .at) _ (l .loop .left) (omega arith) (l .loop .inv .0 .1) (λ e. omega arith) (omega arith) (bit-none _ _ (sym (u .before .is-marked .ensures) ∙ u .if3 .left))
 
 -- src/walk.rt:61:13
-front-of-requires : tie.Need-front-of-requires Inv-loop μ-loop
+link-of-requires : tie.Need-link-of-requires Inv-loop μ-loop
 unfolding cells
-front-of-requires c κs = omega arith
+link-of-requires c κs = omega arith
 
 -- src/walk.rt:62:9
 lesser-requires : tie.Need-lesser-requires Inv-loop μ-loop
@@ -68,7 +68,7 @@ lesser-requires c κs = search needs
 loop-less : tie.Need-loop-less Inv-loop μ-loop
 unfolding cells
 loop-less c =
-    let u = c .before .before .before .before .before .before in
+    let u = c .before .before .before .before .before .before .before in
     let l = u .before .before .before .before .before in
     let h = unmet-one (l .loop .marks) (l .loop .at) _ (l .loop .left) (omega arith) (l .loop .inv .0 .1) (λ e. omega arith) (omega arith) (bit-none _ _ (sym (u .before .is-marked .ensures) ∙ u .if3 .left)) in
     omega arith
@@ -77,16 +77,16 @@ loop-less c =
 loop-again : tie.Need-loop-again Inv-loop μ-loop
 unfolding cells
 loop-again c =
-    let u = c .before .before .before .before .before .before in
+    let u = c .before .before .before .before .before .before .before in
     let l = u .before .before .before .before .before .loop in
     let new = bit-none _ _ (sym (u .before .is-marked .ensures) ∙ u .if3 .left) in
-    let set = c .before .before .before .before .mark .ensures in
+    let set = c .before .before .before .before .before .mark .ensures in
     let some = unmet-one (l .marks) (l .at) _ (l .left) (omega arith) (l .inv .0 .1) (λ e. omega arith) (omega arith) new in
-    let front = c .before .front-of .ensures in (
+    let link = c .before .before .link-of .ensures in (
       (omega arith, unmet-less (l .marks) _ (l .at) _ (l .left) (omega arith) (l .inv .0 .1) (λ e. omega arith) (omega arith) new set),
       λ fits met h k f.
-          rw (front .0)
-          (onward fits _ (l .marks) _ _ (l .left) (l .kept) _ (l .from) (l .at) _ some (λ e. omega arith) (omega arith) (omega arith) new set (rw (front .1) at (c .lesser .ensures)) (l .inv .1 fits met h k f)),
+          rw (link .0)
+          (onward fits _ (l .marks) _ _ (l .left) (l .kept) _ (l .from) (l .at) _ some (λ e. omega arith) (omega arith) (omega arith) new set (rw (link .1) at (c .lesser .ensures)) (l .inv .1 fits met h k f)),
     )
 
 -- src/walk.rt:40:1
@@ -135,7 +135,7 @@ walk-spec =
     is-marked-requires
     mark-requires
     sub-left
-    front-of-requires
+    link-of-requires
     lesser-requires
     loop-less
     loop-again
