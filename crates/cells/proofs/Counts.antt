@@ -32,9 +32,6 @@ first-within p c (suc n) = byTest (p c) (first-within p (suc c) n) where
 pub first-low : (p : ℕ → Bool) (c n : ℕ) → c ≤ firstFrom p c n
 first-low p c n = first-within p c n .0
 
-pub first-high : (p : ℕ → Bool) (c n : ℕ) → firstFrom p c n ≤ c + n
-first-high p c n = first-within p c n .1
-
 -- tests that agree find the same
 pub first-ext : (p q : ℕ → Bool) (c n : ℕ) → ((i : ℕ) → p i ≡ q i) → firstFrom p c n ≡ firstFrom q c n
 unfolding firstFrom

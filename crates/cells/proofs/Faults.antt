@@ -21,29 +21,29 @@ use Rattle.cells.proofs.Counts.{count-append, first-all, all-first, in-
 use Rattle.cells.proofs.Walks.{Proper, proper-nil, proper-on, inside, inside-yes, inside-past, inside-zero, inside-le, walk-end, walk-on, walked, short}
 
 -- where a walk that ends has been
-record Ended (s met : List ℕ) (at : ℕ) (w : Stop × List ℕ) : Type 0 where
+record Ended (s reached : List ℕ) (at : ℕ) (w : Stop × List ℕ) : Type 0 where
   chain : List ℕ
-  whole : w .1 ≡ met ++ chain
+  whole : w .1 ≡ reached ++ chain
   linked : Linked (nextOf s) at chain
   proper : Proper s (w .1)
 
-module _ (s met : List ℕ) (at : ℕ) where
-  ended-here : (w : Stop × List ℕ) → Proper s met → at ≡ 0 → w ≡ (End, met) → Ended s met at w
-  ended-here w p z e = record { chain = []; whole = ap (λ (x : Stop × List ℕ). x .1) e ∙ sym (append-nil met); linked = z; proper = rw e p }
+module _ (s reached : List ℕ) (at : ℕ) where
+  ended-here : (w : Stop × List ℕ) → Proper s reached → at ≡ 0 → w ≡ (End, reached) → Ended s reached at w
+  ended-here w p z e = record { chain = []; whole = ap (λ (x : Stop × List ℕ). x .1) e ∙ sym (append-nil reached); linked = z; proper = rw e p }
 
-  ended-on : (w : Stop × List ℕ) → (at ≡ 0 → ⊥) → Ended s (met ++ (at ∷ [])) (nextOf s at) w → Ended s met at w
-  ended-on w z e = record { chain = at ∷ e .chain; whole = e .whole ∙ append-assoc met (at ∷ []) (e .chain); linked = (refl, (omega (arith, z)), e .linked); proper = e .proper }
+  ended-on : (w : Stop × List ℕ) → (at ≡ 0 → ⊥) → Ended s (reached ++ (at ∷ [])) (nextOf s at) w → Ended s reached at w
+  ended-on w z e = record { chain = at ∷ e .chain; whole = e .whole ∙ append-assoc reached (at ∷ []) (e .chain); linked = (refl, (omega (arith, z)), e .linked); proper = e .proper }
 
-ended : (s : List ℕ) (n : ℕ) (met : List ℕ) (from at : ℕ) → Proper s met → walkOf s n met from at .0 ≡ End → Ended s met at (walkOf s n met from at)
+ended : (s : List ℕ) (n : ℕ) (reached : List ℕ) (from at : ℕ) → Proper s reached → walkOf s n reached from at .0 ≡ End → Ended s reached at (walkOf s n reached from at)
 ended s =
-    walked s (λ n met from at w. Proper s met → w .0 ≡ End → Ended s met at w) (λ n met from at z p h. ended-here s met at (End, met) p z refl)
-    (λ n met from at z o p h. absurd (let q : _≡_ {A = ℕ} 0 1 = cc in omega arith))
-    (λ n met from at w z l k ih p h. ended-on s met at w z (ih (proper-on s met at p z l k) h))
+    walked s (λ n reached from at w. Proper s reached → w .0 ≡ End → Ended s reached at w) (λ n reached from at z p h. ended-here s reached at (End, reached) p z refl)
+    (λ n reached from at z o p h. absurd (let q : _≡_ {A = ℕ} 0 1 = cc in omega arith))
+    (λ n reached from at w z l k ih p h. ended-on s reached at w z (ih (proper-on s reached at p z l k) h))
 
-fresh-inside : (s met : List ℕ) (c : ℕ) (l : List ℕ) → Proper s (met ++ (c ∷ l)) → (c ≡ 0 → ⊥) × ((c < cells s) × (count c met ≡ 0))
+fresh-inside : (s reached : List ℕ) (c : ℕ) (l : List ℕ) → Proper s (reached ++ (c ∷ l)) → (c ≡ 0 → ⊥) × ((c < cells s) × (count c reached ≡ 0))
 unfolding Proper count
-fresh-inside s met c l p =
-    let h : count c met + (1 + count c l) ≤ inside (cells s) c = rw (count-append c met (c ∷ l), eq-eqb c c refl) at (p c) in
+fresh-inside s reached c l p =
+    let h : count c reached + (1 + count c l) ≤ inside (cells s) c = rw (count-append c reached (c ∷ l), eq-eqb c c refl) at (p c) in
     let o = inside-le (cells s) c in (
       (λ z. omega (arith, inside-zero (cells s) c z)),
       (
@@ -52,14 +52,14 @@ fresh-inside s met c l p =
       ),
     )
 
--- a chain whose cells lie inside and were not met is walked to its end
-followed : (s : List ℕ) (n : ℕ) (met : List ℕ) (from at : ℕ) (l : List ℕ) → Linked (nextOf s) at l → Proper s (met ++ l) → length l ≤ n → walkOf s n met from at ≡ (End, met ++ l)
-followed s n met from at [] k p h = walk-end s n met from at k ∙ ap (λ (x : List ℕ). (End, x)) (sym (append-nil met))
-followed s zero met from at (c ∷ l) k p h = absurd (omega arith)
-followed s (suc n) met from at (c ∷ l) k p h =
-    let f = fresh-inside s met c l p in
-    let g = append-assoc met (c ∷ []) l in
-    rw (k .0, walk-on s n met from c (f .0) (f .1 .0) (f .1 .1), followed s n (met ++ (c ∷ [])) c (nextOf s c) l (k .2) (rw g p) (omega arith), g)
+-- a chain whose cells lie inside and were not reached is walked to its end
+followed : (s : List ℕ) (n : ℕ) (reached : List ℕ) (from at : ℕ) (l : List ℕ) → Linked (nextOf s) at l → Proper s (reached ++ l) → length l ≤ n → walkOf s n reached from at ≡ (End, reached ++ l)
+followed s n reached from at [] k p h = walk-end s n reached from at k ∙ ap (λ (x : List ℕ). (End, x)) (sym (append-nil reached))
+followed s zero reached from at (c ∷ l) k p h = absurd (omega arith)
+followed s (suc n) reached from at (c ∷ l) k p h =
+    let f = fresh-inside s reached c l p in
+    let g = append-assoc reached (c ∷ []) l in
+    rw (k .0, walk-on s n reached from c (f .0) (f .1 .0) (f .1 .1), followed s n (reached ++ (c ∷ [])) c (nextOf s c) l (k .2) (rw g p) (omega arith), g)
 
 -- the checks, one by one
 broken-sound : (w : Stop) (f : Fault) → brokenOr w f ≡ Sound → (w ≡ End) × (f ≡ Sound)
@@ -124,9 +124,9 @@ module _ (s : List ℕ) (h : faultOf s ≡ Sound) where
   unfolding Proper
   within c = omega (arith, both-counts c, of-free .proper c)
 
-  met-all : (c : ℕ) → c < cells s → count c cs + count c fs ≡ cond (eqb c 0) 0 1
+  reached-all : (c : ℕ) → c < cells s → count c cs + count c fs ≡ cond (eqb c 0) 0 1
   unfolding isIn
-  met-all c p = elim (ℕ-discrete c 0) [
+  reached-all c p = elim (ℕ-discrete c 0) [
     | yes z ↦ rw (eq-eqb c 0 z) (omega (arith, within c, inside-zero (cells s) c z))
     | no z ↦
         let k = eqb-false (count c (freeWalk s .1)) 0 (not-true _ (fit c (omega (arith, z)) p .1)) in
@@ -147,7 +147,7 @@ module _ (s : List ℕ) (h : faultOf s ≡ Sound) where
         let l = inside-below (cells s) c (omega (arith, within c)) in
         let o = inside-le (cells s) c in
         rw (in-no c cs (omega (arith, within c))) at (fit c (positive c (omega arith)) l .0);
-    cover = met-all;
+    cover = reached-all;
   })
     where
       positive : (c : ℕ) → 0 < count c cs + count c fs → 0 < c

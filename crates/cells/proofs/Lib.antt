@@ -2,7 +2,6 @@ pub mod Numbers
 mod Links
 pub mod Chains
 pub mod Counts
-pub mod Pigeons
 pub mod Form
 pub mod Walks
 pub mod Faults

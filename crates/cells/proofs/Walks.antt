@@ -14,50 +14,50 @@ use Rattle.cells.specs.Faults.{walkOf}
 use Rattle.cells.specs.declared.Stop.{Stop}
 use Rattle.cells.specs.declared.Stop.the-variants.{End, Broken}
 use Rattle.cells.proofs.Counts.{count-last, in-yes, in-no}
-use Rattle.cells.proofs.Pigeons.{pigeons}
+use Rattle.cells.proofs.Chains.{pigeonhole}
 
 -- ---- one step
 
-pub walk-end : (s : List ℕ) (n : ℕ) (met : List ℕ) (from at : ℕ) → at ≡ 0 → walkOf s n met from at ≡ (End, met)
+pub walk-end : (s : List ℕ) (n : ℕ) (reached : List ℕ) (from at : ℕ) → at ≡ 0 → walkOf s n reached from at ≡ (End, reached)
 unfolding walkOf
-walk-end s zero met from at e = rw (eq-eqb at 0 e)
-walk-end s (suc n) met from at e = rw (eq-eqb at 0 e)
+walk-end s zero reached from at e = rw (eq-eqb at 0 e)
+walk-end s (suc n) reached from at e = rw (eq-eqb at 0 e)
 
-walk-out : (s met : List ℕ) (from at : ℕ) → (at ≡ 0 → ⊥) → walkOf s zero met from at ≡ (Broken from, met)
+walk-out : (s reached : List ℕ) (from at : ℕ) → (at ≡ 0 → ⊥) → walkOf s zero reached from at ≡ (Broken from, reached)
 unfolding walkOf
-walk-out s met from at z = rw (ne-eqb at 0 z)
+walk-out s reached from at z = rw (ne-eqb at 0 z)
 
-pub walk-past : (s : List ℕ) (n : ℕ) (met : List ℕ) (from at : ℕ) → (at ≡ 0 → ⊥) → cells s ≤ at → walkOf s n met from at ≡ (Broken from, met)
+pub walk-past : (s : List ℕ) (n : ℕ) (reached : List ℕ) (from at : ℕ) → (at ≡ 0 → ⊥) → cells s ≤ at → walkOf s n reached from at ≡ (Broken from, reached)
 unfolding walkOf
-walk-past s zero met from at z h = rw (ne-eqb at 0 z)
-walk-past s (suc n) met from at z h = rw (ne-eqb at 0 z, le-leb (cells s) at h)
+walk-past s zero reached from at z h = rw (ne-eqb at 0 z)
+walk-past s (suc n) reached from at z h = rw (ne-eqb at 0 z, le-leb (cells s) at h)
 
-pub walk-twice : (s : List ℕ) (n : ℕ) (met : List ℕ) (from at : ℕ) → (at ≡ 0 → ⊥) → at < cells s → (count at met ≡ 0 → ⊥) → walkOf s n met from at ≡ (Broken from, met)
+pub walk-twice : (s : List ℕ) (n : ℕ) (reached : List ℕ) (from at : ℕ) → (at ≡ 0 → ⊥) → at < cells s → (count at reached ≡ 0 → ⊥) → walkOf s n reached from at ≡ (Broken from, reached)
 unfolding walkOf
-walk-twice s zero met from at z l h = rw (ne-eqb at 0 z)
-walk-twice s (suc n) met from at z l h = rw (ne-eqb at 0 z, lt-leb (cells s) at l, in-yes at met (omega (arith, h)))
+walk-twice s zero reached from at z l h = rw (ne-eqb at 0 z)
+walk-twice s (suc n) reached from at z l h = rw (ne-eqb at 0 z, lt-leb (cells s) at l, in-yes at reached (omega (arith, h)))
 
-pub walk-on : (s : List ℕ) (n : ℕ) (met : List ℕ) (from at : ℕ) → (at ≡ 0 → ⊥) → at < cells s → count at met ≡ 0 → walkOf s (suc n) met from at ≡ walkOf s n (met ++ (at ∷ [])) at (nextOf s at)
+pub walk-on : (s : List ℕ) (n : ℕ) (reached : List ℕ) (from at : ℕ) → (at ≡ 0 → ⊥) → at < cells s → count at reached ≡ 0 → walkOf s (suc n) reached from at ≡ walkOf s n (reached ++ (at ∷ [])) at (nextOf s at)
 unfolding walkOf
-walk-on s n met from at z l h = rw (ne-eqb at 0 z, lt-leb (cells s) at l, in-no at met h)
+walk-on s n reached from at z l h = rw (ne-eqb at 0 z, lt-leb (cells s) at l, in-no at reached h)
 
 -- a claim about every walk: it holds of each that stops at once, and of one with a step more wherever of the one behind that step. A walk that is stopped though its index is a cell not reached before has no step left
 pub walked : (s : List ℕ) (P : ℕ → List ℕ → ℕ → ℕ → Stop × List ℕ → Type 0)
-    → ((n : ℕ) (met : List ℕ) (from at : ℕ) → at ≡ 0 → P n met from at (End, met))
-    → ((n : ℕ) (met : List ℕ) (from at : ℕ) → (at ≡ 0 → ⊥) → (at < cells s → count at met ≡ 0 → n ≡ 0) → P n met from at (Broken from, met))
-    → ((n : ℕ) (met : List ℕ) (from at : ℕ) (w : Stop × List ℕ) → (at ≡ 0 → ⊥) → at < cells s → count at met ≡ 0 → P n (met ++ (at ∷ [])) at (nextOf s at) w → P (suc n) met from at w)
-    → (n : ℕ) (met : List ℕ) (from at : ℕ) → P n met from at (walkOf s n met from at)
-walked s P end broken on zero met from at = elim (ℕ-discrete at 0) [
-  | yes z ↦ rw (walk-end s zero met from at z) (end zero met from at z)
-  | no z ↦ rw (walk-out s met from at z) (broken zero met from at z (λ l k. refl))
+    → ((n : ℕ) (reached : List ℕ) (from at : ℕ) → at ≡ 0 → P n reached from at (End, reached))
+    → ((n : ℕ) (reached : List ℕ) (from at : ℕ) → (at ≡ 0 → ⊥) → (at < cells s → count at reached ≡ 0 → n ≡ 0) → P n reached from at (Broken from, reached))
+    → ((n : ℕ) (reached : List ℕ) (from at : ℕ) (w : Stop × List ℕ) → (at ≡ 0 → ⊥) → at < cells s → count at reached ≡ 0 → P n (reached ++ (at ∷ [])) at (nextOf s at) w → P (suc n) reached from at w)
+    → (n : ℕ) (reached : List ℕ) (from at : ℕ) → P n reached from at (walkOf s n reached from at)
+walked s P end broken on zero reached from at = elim (ℕ-discrete at 0) [
+  | yes z ↦ rw (walk-end s zero reached from at z) (end zero reached from at z)
+  | no z ↦ rw (walk-out s reached from at z) (broken zero reached from at z (λ l k. refl))
 ]
-walked s P end broken on (suc n) met from at = elim (ℕ-discrete at 0) [
-  | yes z ↦ rw (walk-end s (suc n) met from at z) (end (suc n) met from at z)
+walked s P end broken on (suc n) reached from at = elim (ℕ-discrete at 0) [
+  | yes z ↦ rw (walk-end s (suc n) reached from at z) (end (suc n) reached from at z)
   | no z ↦ elim (decLt at (cells s)) [
-    | no l ↦ rw (walk-past s (suc n) met from at z (omega arith)) (broken (suc n) met from at z (λ p k. absurd (l p)))
-    | yes l ↦ elim (ℕ-discrete (count at met) 0) [
-      | no k ↦ rw (walk-twice s (suc n) met from at z l k) (broken (suc n) met from at z (λ p e. absurd (k e)))
-      | yes k ↦ rw (walk-on s n met from at z l k) (on n met from at _ z l k (walked s P end broken on n (met ++ (at ∷ [])) at (nextOf s at)))
+    | no l ↦ rw (walk-past s (suc n) reached from at z (omega arith)) (broken (suc n) reached from at z (λ p k. absurd (l p)))
+    | yes l ↦ elim (ℕ-discrete (count at reached) 0) [
+      | no k ↦ rw (walk-twice s (suc n) reached from at z l k) (broken (suc n) reached from at z (λ p e. absurd (k e)))
+      | yes k ↦ rw (walk-on s n reached from at z l k) (on n reached from at _ z l k (walked s P end broken on n (reached ++ (at ∷ [])) at (nextOf s at)))
     ]
   ]
 ]
@@ -90,64 +90,64 @@ inside-le n c = bit (ltb 0 c && ltb c n) where
   bit true = omega arith
   bit false = omega arith
 
--- the cells met lie inside, each once
+-- the cells reached lie inside, each once
 unfoldable pub Proper : List ℕ → List ℕ → Type 0
-Proper s met = (c : ℕ) → count c met ≤ inside (cells s) c
+Proper s reached = (c : ℕ) → count c reached ≤ inside (cells s) c
 
 pub proper-nil : (s : List ℕ) → Proper s []
 unfolding Proper count
 proper-nil s c = omega arith
 
-pub proper-on : (s met : List ℕ) (at : ℕ) → Proper s met → (at ≡ 0 → ⊥) → at < cells s → count at met ≡ 0 → Proper s (met ++ (at ∷ []))
+pub proper-on : (s reached : List ℕ) (at : ℕ) → Proper s reached → (at ≡ 0 → ⊥) → at < cells s → count at reached ≡ 0 → Proper s (reached ++ (at ∷ []))
 unfolding Proper
-proper-on s met at p z l h c = elim (ℕ-discrete c at) [
-  | yes e ↦ rw (e, count-last at met at, eq-eqb at at refl, h, inside-yes (cells s) at (omega (arith, z)) l) (omega arith)
-  | no n ↦ rw (count-last c met at, ne-eqb at c (λ e. n (sym e))) (omega (arith, p c))
+proper-on s reached at p z l h c = elim (ℕ-discrete c at) [
+  | yes e ↦ rw (e, count-last at reached at, eq-eqb at at refl, h, inside-yes (cells s) at (omega (arith, z)) l) (omega arith)
+  | no n ↦ rw (count-last c reached at, ne-eqb at c (λ e. n (sym e))) (omega (arith, p c))
 ]
 
-pub walk-proper : (s : List ℕ) (n : ℕ) (met : List ℕ) (from at : ℕ) → Proper s met → Proper s (walkOf s n met from at .1)
+pub walk-proper : (s : List ℕ) (n : ℕ) (reached : List ℕ) (from at : ℕ) → Proper s reached → Proper s (walkOf s n reached from at .1)
 walk-proper s =
-    walked s (λ n met from at w. Proper s met → Proper s (w .1)) (λ n met from at z p. p) (λ n met from at z o p. p)
-    (λ n met from at w z l k ih p. ih (proper-on s met at p z l k))
+    walked s (λ n reached from at w. Proper s reached → Proper s (w .1)) (λ n reached from at z p. p) (λ n reached from at z o p. p)
+    (λ n reached from at w z l k ih p. ih (proper-on s reached at p z l k))
 
 -- no more cells than there are
 pub short : (s l : List ℕ) → Proper s l → length l ≤ cells s
 unfolding Proper
 short s l p =
-    pigeons (cells s) l (λ c. omega (arith, p c, inside-le (cells s) c)) (λ c h. omega (arith, p c, inside-past (cells s) c h))
+    pigeonhole (cells s) l (λ c. omega (arith, p c, inside-le (cells s) c)) (λ c h. omega (arith, p c, inside-past (cells s) c h))
 
 -- a cell that was not reached, and cell 0, are two more
-shorter : (s met : List ℕ) (at : ℕ) → Proper s met → (at ≡ 0 → ⊥) → at < cells s → count at met ≡ 0 → length met + 2 ≤ cells s
+shorter : (s reached : List ℕ) (at : ℕ) → Proper s reached → (at ≡ 0 → ⊥) → at < cells s → count at reached ≡ 0 → length reached + 2 ≤ cells s
 unfolding Proper count
-shorter s met at p z l k =
-    let q = proper-on s met at p z l k in
-    omega (arith, length-append met (at ∷ []), pigeons (cells s) (0 ∷ (met ++ (at ∷ []))) (each q) (past q))
+shorter s reached at p z l k =
+    let q = proper-on s reached at p z l k in
+    omega (arith, length-append reached (at ∷ []), pigeonhole (cells s) (0 ∷ (reached ++ (at ∷ []))) (each q) (past q))
   where
-    each : Proper s (met ++ (at ∷ [])) → (c : ℕ) → count c (0 ∷ (met ++ (at ∷ []))) ≤ 1
+    each : Proper s (reached ++ (at ∷ [])) → (c : ℕ) → count c (0 ∷ (reached ++ (at ∷ []))) ≤ 1
     each q c = elim (ℕ-discrete c 0) [
       | yes e ↦ rw (eq-eqb 0 c (sym e)) (omega (arith, q c, inside-zero (cells s) c e))
       | no n ↦ rw (ne-eqb 0 c (λ e. n (sym e))) (omega (arith, q c, inside-le (cells s) c))
     ]
 
-    past : Proper s (met ++ (at ∷ [])) → (c : ℕ) → cells s ≤ c → count c (0 ∷ (met ++ (at ∷ []))) ≡ 0
+    past : Proper s (reached ++ (at ∷ [])) → (c : ℕ) → cells s ≤ c → count c (0 ∷ (reached ++ (at ∷ []))) ≡ 0
     past q c h = rw (ne-eqb 0 c (λ e. omega arith)) (omega (arith, q c, inside-past (cells s) c h))
 
 -- with steps for all cells that were not reached, further ones change nothing
-pub walk-enough : (s : List ℕ) (more n : ℕ) (met : List ℕ) (from at : ℕ) → Proper s met → cells s ≤ n + length met + 1 → walkOf s (n + more) met from at ≡ walkOf s n met from at
+pub walk-enough : (s : List ℕ) (more n : ℕ) (reached : List ℕ) (from at : ℕ) → Proper s reached → cells s ≤ n + length reached + 1 → walkOf s (n + more) reached from at ≡ walkOf s n reached from at
 walk-enough s more =
-    walked s (λ n met from at w. Proper s met → cells s ≤ n + length met + 1 → walkOf s (n + more) met from at ≡ w)
-    (λ n met from at z p h. walk-end s (n + more) met from at z)
+    walked s (λ n reached from at w. Proper s reached → cells s ≤ n + length reached + 1 → walkOf s (n + more) reached from at ≡ w)
+    (λ n reached from at z p h. walk-end s (n + more) reached from at z)
     stopped
-    (λ n met from at w z l k ih p h.
+    (λ n reached from at w z l k ih p h.
     let e : suc n + more ≡ suc (n + more) = omega arith in
-    ap (λ (t : ℕ). walkOf s t met from at) e ∙ walk-on s (n + more) met from at z l k ∙ ih (proper-on s met at p z l k) (omega (arith, length-append met (at ∷ []))))
+    ap (λ (t : ℕ). walkOf s t reached from at) e ∙ walk-on s (n + more) reached from at z l k ∙ ih (proper-on s reached at p z l k) (omega (arith, length-append reached (at ∷ []))))
   where
-    stopped : (n : ℕ) (met : List ℕ) (from at : ℕ) → (at ≡ 0 → ⊥) → (at < cells s → count at met ≡ 0 → n ≡ 0) → Proper s met → cells s ≤ n + length met + 1 → walkOf s (n + more) met from at ≡ (Broken from, met)
-    stopped n met from at z o p h = elim (decLt at (cells s)) [
-      | no l ↦ walk-past s (n + more) met from at z (omega arith)
-      | yes l ↦ elim (ℕ-discrete (count at met) 0) [
-        | no k ↦ walk-twice s (n + more) met from at z l k
-        | yes k ↦ absurd (omega (arith, o l k, shorter s met at p z l k))
+    stopped : (n : ℕ) (reached : List ℕ) (from at : ℕ) → (at ≡ 0 → ⊥) → (at < cells s → count at reached ≡ 0 → n ≡ 0) → Proper s reached → cells s ≤ n + length reached + 1 → walkOf s (n + more) reached from at ≡ (Broken from, reached)
+    stopped n reached from at z o p h = elim (decLt at (cells s)) [
+      | no l ↦ walk-past s (n + more) reached from at z (omega arith)
+      | yes l ↦ elim (ℕ-discrete (count at reached) 0) [
+        | no k ↦ walk-twice s (n + more) reached from at z l k
+        | yes k ↦ absurd (omega (arith, o l k, shorter s reached at p z l k))
       ]
     ]
 
@@ -158,8 +158,8 @@ unfoldable pub stopCell : Stop → ℕ
 stopCell End = 0
 stopCell (Broken c) = c
 
-pub walk-low : (s : List ℕ) (n : ℕ) (met : List ℕ) (from at : ℕ) → from < cells s → stopCell (walkOf s n met from at .0) < cells s
+pub walk-low : (s : List ℕ) (n : ℕ) (reached : List ℕ) (from at : ℕ) → from < cells s → stopCell (walkOf s n reached from at .0) < cells s
 unfolding stopCell
 walk-low s =
-    walked s (λ n met from at w. from < cells s → stopCell (w .0) < cells s) (λ n met from at z l. omega arith) (λ n met from at z o l. l)
-    (λ n met from at w z l k ih h. ih l)
+    walked s (λ n reached from at w. from < cells s → stopCell (w .0) < cells s) (λ n reached from at z l. omega arith) (λ n reached from at z o l. l)
+    (λ n reached from at w z l k ih h. ih l)

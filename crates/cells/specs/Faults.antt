@@ -15,8 +15,9 @@ use Rattle.cells.specs.declared.Fault.the-variants.{Sound, Length, Index
 
 -- ---- the walk
 
--- the walk from an index on, which the cell `from` holds, where these cells were reached before: how it stops, and the cells reached then. Zero ends the chain; "an index past the last cell, or a cell
--- reached twice, stops the walk with the cell that held the index". It takes no more steps than the number given: as many as there are cells cut no walk short, since each reaches another cell (FirstFault)
+-- the walk from an index on, which the cell `from` holds, where these cells were reached before: how it stops, and all cells reached by then, those from before among them. Zero ends the chain; "an index
+-- past the last cell, or a cell reached twice, stops the walk with the cell that held the index". The number is that of the steps it may take. With none left an index that is not zero counts as broken, which never
+-- decides where there are as many steps as cells: each step reaches another cell (FirstFault: sales-steps, free-steps)
 unfoldable pub walkOf : List ℕ → ℕ → List ℕ → ℕ → ℕ → Stop × List ℕ
 walkOf s zero reached from at = cond (eqb at 0) (End, reached) (Broken from, reached)
 walkOf s (suc steps) reached from at =
@@ -43,11 +44,11 @@ unfoldable pub brokenOr : Stop → Fault → Fault
 brokenOr End next = next
 brokenOr (Broken c) next = Index c
 
--- "a kind byte that doesn't fit its chain or a cell in neither chain", by the cells that the sales' walk reached and those that both did
+-- "a kind byte that doesn't fit its chain or a cell in neither chain", by the cells that the sales' walk reached and those that both did; of a cell in neither chain the kind does not matter
 unfoldable pub unfit : List ℕ → List ℕ → List ℕ → ℕ → Bool
 unfit s sold reached c = not (kindFits (isIn c sold) (kindOf s c)) || not (isIn c reached)
 
--- such a cell is the fault; where the number is past the n cells there is none
+-- such a cell is the fault; the number of cells, n, stands for none
 unfoldable pub kindFault : ℕ → ℕ → Fault
 kindFault n c = cond (ltb c n) (Kind c) Sound
 

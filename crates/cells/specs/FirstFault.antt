@@ -1,4 +1,4 @@
--- The first fault and card 1's sentence: what is refused, and what is not (document 02, cards 1 and 7). Assumes nothing.
+-- The first fault and card 1's sentence: what is refused, and what is not (document 02, cards 1 and 7). Which fault comes first is Faults' definition. Assumes nothing.
 use mathlib.Core.Path.{_≡_}
 use mathlib.Core.Bool.{true}
 use mathlib.Core.List.{List, []}

@@ -1,4 +1,4 @@
--- One bit of a byte set, and what that does to the others. Assumes nothing.
+-- One bit of a word set, and what that does to the others. Assumes nothing.
 use mathlib.Core.Path.{_≡_, refl, sym, ap, _∙_}
 use mathlib.Core.Bool.{cond, true, false}
 use mathlib.Core.List.{List, [], _∷_, _++_}
@@ -11,7 +11,7 @@ use lib.ListN.{length, getD, length-set}
 use lib.Seq.{getD-set-same, getD-set-other}
 use borrow.Author.Tests.{eq-eqb, ne-eqb, eqb-true, eqb-false, not-true, not-false}
 use Rattle.words.proofs.Truth.{allBelow, carried}
-use Rattle.chains.specs.Marks.{bitAt, marked, isMarked, unmarked, bits, Marks, Unmet}
+use Rattle.chains.specs.Marks.{bitAt, marked, isMarked, unmarked, bits, Marks, Unreached}
 use Rattle.cells.proofs.Counts.{count-last}
 
 halved : (x k : ℕ) → x / 2 ^ suc k ≡ x / 2 / 2 ^ k
@@ -61,8 +61,8 @@ bit-marked m c k l h = elim (ℕ-discrete (k / 64) (c / 64)) [
     | no n ↦ rw (ne-eqb k c n, ne-eqb (k % 64) (c % 64) (λ e. n (omega arith)))
   ]
 
-pub marks-more : (m met : List ℕ) (c : ℕ) → c < 64 * length m → bitAt m c ≡ 0 → Marks m met → Marks (marked m c) (met ++ (c ∷ []))
-marks-more m met c l h g = record { each = λ k. bit-marked m c k l h ∙ rw (g .each k, same-test k c) (sym (count-last k met c)) }
+pub marks-more : (m reached : List ℕ) (c : ℕ) → c < 64 * length m → bitAt m c ≡ 0 → Marks m reached → Marks (marked m c) (reached ++ (c ∷ []))
+marks-more m reached c l h g = record { each = λ k. bit-marked m c k l h ∙ rw (g .each k, same-test k c) (sym (count-last k reached c)) }
 
 -- a mark as the code tests it
 pub bit-none : (m : List ℕ) (c : ℕ) → isMarked m c ≡ false → bitAt m c ≡ 0
@@ -134,21 +134,21 @@ unfolding marked
 length-marked m c = length-set m (c / 64) _
 
 -- a cell that is not marked, beside cell 0, has room
-pub unmet-one : (m : List ℕ) (c n left : ℕ) → n ≤ 64 * length m → Unmet n m left → (c ≡ 0 → ⊥) → c < n → bitAt m c ≡ 0 → 1 ≤ left
-unmet-one m c n left l r z k h =
+pub unreached-one : (m : List ℕ) (c n left : ℕ) → n ≤ 64 * length m → Unreached n m left → (c ≡ 0 → ⊥) → c < n → bitAt m c ≡ 0 → 1 ≤ left
+unreached-one m c n left l r z k h =
     let e = bits-marked m c n (omega arith) h k in
     let f = bits-marked (marked m c) 0 n (omega (arith, length-marked m c)) (bit-marked m c 0 (omega arith) h ∙ rw (ne-eqb 0 c (λ e. z (sym e)), r .head)) (omega arith) in
     omega (arith, bits-most (marked (marked m c) 0) n, r .many)
 
-pub unmet-less : (m k : List ℕ) (c n left : ℕ) → n ≤ 64 * length m → Unmet n m left → (c ≡ 0 → ⊥) → c < n → bitAt m c ≡ 0 → k ≡ marked m c → Unmet n k (left - 1)
-unmet-less m k c n left l r z a h e =
-    let p = unmet-one m c n left l r z a h in
+pub unreached-less : (m k : List ℕ) (c n left : ℕ) → n ≤ 64 * length m → Unreached n m left → (c ≡ 0 → ⊥) → c < n → bitAt m c ≡ 0 → k ≡ marked m c → Unreached n k (left - 1)
+unreached-less m k c n left l r z a h e =
+    let p = unreached-one m c n left l r z a h in
     let f = bits-marked m c n (omega arith) h a in
     rw e (record { head = bit-marked m c 0 (omega arith) h ∙ rw (ne-eqb 0 c (λ e. z (sym e)), r .head); many = omega (arith, r .many) })
 
 -- where there is no room, each cell but 0 is marked
-pub unmet-none : (m : List ℕ) (n : ℕ) → n ≤ 64 * length m → Unmet n m 0 → (c : ℕ) → 1 ≤ c → c < n → unmarked m c ≡ false
-unmet-none m n l r c a b = elim (ℕ-discrete (bitAt m c) 0) [
-  | yes h ↦ absurd (omega (arith, unmet-one m c n 0 l r (λ e. omega arith) b h))
+pub unreached-none : (m : List ℕ) (n : ℕ) → n ≤ 64 * length m → Unreached n m 0 → (c : ℕ) → 1 ≤ c → c < n → unmarked m c ≡ false
+unreached-none m n l r c a b = elim (ℕ-discrete (bitAt m c) 0) [
+  | yes h ↦ absurd (omega (arith, unreached-one m c n 0 l r (λ e. omega arith) b h))
   | no q ↦ bit-marks m c (omega (arith, q, bit-most m c))
 ]

@@ -10,11 +10,10 @@ use lib.ListN.{length, length-append}
 use borrow.Author.Tests.{eq-eqb, ne-eqb}
 use Rattle.cells.specs.Chains.{count}
 use Rattle.cells.specs.Cells.{cells, firstSale, firstFree, nextOf, kindOf, kindFits, formed}
-use Rattle.cells.proofs.Chains.{Linked, In, count-here, count-there}
+use Rattle.cells.proofs.Chains.{Linked, In, count-here, count-there, pigeonhole}
 use Rattle.cells.proofs.Form.{Long, Form, of-form}
 use Rattle.chains.specs.Sound.{Segment, BothUpTo, OneUpTo}
 use Rattle.cells.proofs.Counts.{count-append}
-use Rattle.cells.proofs.Pigeons.{pigeons}
 
 module _ (s : List ℕ) (k : ℕ) where
   pub segment-more : (i : ℕ) (l : List ℕ) (j : ℕ) → Segment s k i l j → 0 < j → j < cells s → kindOf s j ≡ k → Segment s k i (l ++ (j ∷ [])) (nextOf s j)
@@ -115,11 +114,11 @@ module _ (s cs fs : List ℕ) (long : Long s) (x : Segment s 1 (firstSale s) cs 
   none-past c h = elim (decLt 0 (count c cs + count c fs)) [ yes p ↦ absurd (let a = low c p .1 in omega arith) | no p ↦ omega arith ]
 
   -- cell 0, a cell that is missing, and all others would be one too many
-  met : (c : ℕ) → (c ≡ 0 → ⊥) → c < cells s → 0 < count c cs + count c fs
+  reached : (c : ℕ) → (c ≡ 0 → ⊥) → c < cells s → 0 < count c cs + count c fs
   unfolding count
-  met c z l = elim (decLt 0 (count c cs + count c fs)) [
+  reached c z l = elim (decLt 0 (count c cs + count c fs)) [
     | yes p ↦ p
-    | no p ↦ absurd (omega (arith, pigeons (cells s) (0 ∷ (c ∷ (cs ++ fs))) (each (omega arith)) past, length-append cs fs))
+    | no p ↦ absurd (omega (arith, pigeonhole (cells s) (0 ∷ (c ∷ (cs ++ fs))) (each (omega arith)) past, length-append cs fs))
   ] where
     counted : (d : ℕ) → count d (0 ∷ (c ∷ (cs ++ fs))) ≡ cond (eqb 0 d) 1 0 + (cond (eqb c d) 1 0 + (count d cs + count d fs))
     counted d = rw (count-append d cs fs)
@@ -145,7 +144,7 @@ module _ (s cs fs : List ℕ) (long : Long s) (x : Segment s 1 (firstSale s) cs 
     | yes z ↦
         let n : count c cs + count c fs ≡ 0 = rw z none-zero in
         rw (eq-eqb c 0 z) n
-    | no z ↦ rw (ne-eqb c 0 z) (omega (arith, met c z l, once c))
+    | no z ↦ rw (ne-eqb c 0 z) (omega (arith, reached c z l, once c))
   ]
 
   pub segments-formed : formed s ≡ true

@@ -9,7 +9,7 @@ use lib.Dec.{eqb, ltb}
 use borrow.Author.Tests.{eq-eqb, ne-eqb, le-leb, lt-leb, lt-ltb, le-ltb}
 use Rattle.cells.specs.declared.Stop.{Stop}
 use Rattle.cells.specs.declared.Stop.the-variants.{End, Broken}
-use Rattle.chains.specs.declared.Traversal.{Traversal}
+use Rattle.chains.specs.declared.MarkedWalk.{MarkedWalk}
 use Rattle.cells.specs.Chains.{count}
 use Rattle.cells.specs.Cells.{cells, nextOf, kindOf}
 use Rattle.cells.specs.Faults.{walkOf}
@@ -19,40 +19,40 @@ use Rattle.cells.proofs.Counts.{count-last}
 use Rattle.cells.proofs.Walks.{walk-on}
 use Rattle.chains.proofs.Bits.{marks-more}
 
--- the walk from w's start stands here, with these cells met and marked, and steps enough for the cells left
-pub record On (fits : ℕ → Bool) (s m : List ℕ) (kind left kept from at : ℕ) (w : Stop × List ℕ) : Type 0 where
-  pub met : List ℕ
+-- the walk from w's start stands here, with these cells reached and marked, and steps enough for the cells left
+pub record On (fits : ℕ → Bool) (s m : List ℕ) (kind left lowest from at : ℕ) (w : Stop × List ℕ) : Type 0 where
+  pub reached : List ℕ
   pub steps : ℕ
   pub enough : left ≤ steps
-  pub marks : Marks m met
-  pub least : FirstMisfit fits met (cells s) kept
-  pub fresh : (c : ℕ) → count c met ≡ 0 → fits c ≡ eqb (kindOf s c) kind
-  pub rest : w ≡ walkOf s steps met from at
+  pub marks : Marks m reached
+  pub least : FirstMisfit fits reached (cells s) lowest
+  pub fresh : (c : ℕ) → count c reached ≡ 0 → fits c ≡ eqb (kindOf s c) kind
+  pub rest : w ≡ walkOf s steps reached from at
 
 -- and stops here
-pub arrived : (fits : ℕ → Bool) (s m : List ℕ) (kind left kept from at : ℕ) (w : Stop × List ℕ) (r : Traversal) (o : On fits s m kind left kept from at w)
-    → walkOf s (o .steps) (o .met) from at ≡ (r .stop, o .met) → r .kept ≡ kept → Walked fits (cells s) r m w
-arrived fits s m kind left kept from at w r o e k =
-    let h : w ≡ (r .stop, o .met) = o .rest ∙ e in
-    let l : w .1 ≡ o .met = ap (λ (x : Stop × List ℕ). x .1) h in
-    record { stop = sym (ap (λ (x : Stop × List ℕ). x .0) h); marks = rw l (o .marks); kept = rw (l, k) (o .least) }
+pub arrived : (fits : ℕ → Bool) (s m : List ℕ) (kind left lowest from at : ℕ) (w : Stop × List ℕ) (r : MarkedWalk) (o : On fits s m kind left lowest from at w)
+    → walkOf s (o .steps) (o .reached) from at ≡ (r .stop, o .reached) → r .lowest ≡ lowest → Walked fits (cells s) r m w
+arrived fits s m kind left lowest from at w r o e k =
+    let h : w ≡ (r .stop, o .reached) = o .rest ∙ e in
+    let l : w .1 ≡ o .reached = ap (λ (x : Stop × List ℕ). x .1) h in
+    record { stop = sym (ap (λ (x : Stop × List ℕ). x .0) h); marks = rw l (o .marks); lowest = rw (l, k) (o .least) }
 
--- the smaller of a misfit and the one kept is kept
-pub misfit-more : (fits : ℕ → Bool) (met : List ℕ) (n k at d : ℕ) → FirstMisfit fits met n k → at < n → d ≡ cond (not (fits at)) (cond (ltb at k) at k) k → FirstMisfit fits (met ++ (at ∷ [])) n d
-misfit-more fits met n k at d g l e = byTest (fits at) refl e where
-  old : FirstMisfit fits (met ++ (at ∷ [])) n k → d ≡ k → FirstMisfit fits (met ++ (at ∷ [])) n d
+-- the smaller of a misfit and the one lowest is lowest
+pub misfit-more : (fits : ℕ → Bool) (reached : List ℕ) (n k at d : ℕ) → FirstMisfit fits reached n k → at < n → d ≡ cond (not (fits at)) (cond (ltb at k) at k) k → FirstMisfit fits (reached ++ (at ∷ [])) n d
+misfit-more fits reached n k at d g l e = byTest (fits at) refl e where
+  old : FirstMisfit fits (reached ++ (at ∷ [])) n k → d ≡ k → FirstMisfit fits (reached ++ (at ∷ [])) n d
   old h q = rw q h
 
-  here : count at (met ++ (at ∷ [])) ≡ count at met + 1
-  here = count-last at met at ∙ rw (eq-eqb at at refl)
+  here : count at (reached ++ (at ∷ [])) ≡ count at reached + 1
+  here = count-last at reached at ∙ rw (eq-eqb at at refl)
 
-  there : (c : ℕ) → (c ≡ at → ⊥) → count c (met ++ (at ∷ [])) ≡ count c met
-  there c q = count-last c met at ∙ rw (ne-eqb at c (λ h. q (sym h))) (omega arith)
+  there : (c : ℕ) → (c ≡ at → ⊥) → count c (reached ++ (at ∷ [])) ≡ count c reached
+  there c q = count-last c reached at ∙ rw (ne-eqb at c (λ h. q (sym h))) (omega arith)
 
-  more : (c : ℕ) → count c met ≤ count c (met ++ (at ∷ []))
-  more c = omega (arith, count-last c met at)
+  more : (c : ℕ) → count c reached ≤ count c (reached ++ (at ∷ []))
+  more c = omega (arith, count-last c reached at)
 
-  byTest : (t : Bool) → fits at ≡ t → d ≡ cond (not t) (cond (ltb at k) at k) k → FirstMisfit fits (met ++ (at ∷ [])) n d
+  byTest : (t : Bool) → fits at ≡ t → d ≡ cond (not t) (cond (ltb at k) at k) k → FirstMisfit fits (reached ++ (at ∷ [])) n d
   byTest true f q = old (record {
     most = g .most;
     least = λ c b i. elim (ℕ-discrete c at) [ yes h ↦ rw h f | no h ↦ g .least c b (omega (arith, there c h)) ];
@@ -76,18 +76,18 @@ misfit-more fits met n k at d g l e = byTest (fits at) refl e where
   ]
 
 -- or goes on
-pub onward : (fits : ℕ → Bool) (s m n : List ℕ) (kind left kept next from at : ℕ) (w : Stop × List ℕ) → 1 ≤ left → (at ≡ 0 → ⊥) → at < cells s → at < 64 * length m → bitAt m at ≡ 0 → n ≡ marked m at
-    → next ≡ cond (not (eqb (kindOf s at) kind)) (cond (ltb at kept) at kept) kept
-    → On fits s m kind left kept from at w → On fits s n kind (left - 1) next at (nextOf s at) w
-onward fits s m n kind left kept next from at w h z l k b e q o =
-    let new : count at (o .met) ≡ 0 = sym (o .marks .each at) ∙ b in
+pub onward : (fits : ℕ → Bool) (s m n : List ℕ) (kind left lowest next from at : ℕ) (w : Stop × List ℕ) → 1 ≤ left → (at ≡ 0 → ⊥) → at < cells s → at < 64 * length m → bitAt m at ≡ 0 → n ≡ marked m at
+    → next ≡ cond (not (eqb (kindOf s at) kind)) (cond (ltb at lowest) at lowest) lowest
+    → On fits s m kind left lowest from at w → On fits s n kind (left - 1) next at (nextOf s at) w
+onward fits s m n kind left lowest next from at w h z l k b e q o =
+    let new : count at (o .reached) ≡ 0 = sym (o .marks .each at) ∙ b in
     let f : o .steps ≡ suc (o .steps - 1) = omega (arith, o .enough) in
     record {
-      met = o .met ++ (at ∷ []);
+      reached = o .reached ++ (at ∷ []);
       steps = o .steps - 1;
       enough = omega (arith, o .enough);
-      marks = rw e (marks-more m (o .met) at k b (o .marks));
-      least = misfit-more fits (o .met) (cells s) kept at next (o .least) l (rw (o .fresh at new) q);
-      fresh = λ c i. o .fresh c (omega (arith, count-last c (o .met) at));
-      rest = o .rest ∙ ap (λ (t : ℕ). walkOf s t (o .met) from at) f ∙ walk-on s (o .steps - 1) (o .met) from at z l new;
+      marks = rw e (marks-more m (o .reached) at k b (o .marks));
+      least = misfit-more fits (o .reached) (cells s) lowest at next (o .least) l (rw (o .fresh at new) q);
+      fresh = λ c i. o .fresh c (omega (arith, count-last c (o .reached) at));
+      rest = o .rest ∙ ap (λ (t : ℕ). walkOf s t (o .reached) from at) f ∙ walk-on s (o .steps - 1) (o .reached) from at z l new;
     }

@@ -1,4 +1,4 @@
--- One bit for each cell, in words of 64: the marks that the code keeps of the cells met; what functions promise each other. Assumes nothing.
+-- One bit for each cell, in words of 64: the marks that the code keeps of the cells reached; what functions promise each other. Assumes nothing.
 use mathlib.Core.Path.{_≡_}
 use mathlib.Core.Bool.{Bool, true, false, not}
 use mathlib.Core.List.{List}
@@ -7,7 +7,7 @@ use lib.Dec.{eqb}
 use lib.ListN.{getD, set}
 use Rattle.cells.specs.Chains.{count}
 use Rattle.cells.specs.declared.Stop.{Stop}
-use Rattle.chains.specs.declared.Traversal.{Traversal}
+use Rattle.chains.specs.declared.MarkedWalk.{MarkedWalk}
 
 -- mark c, 0 or 1
 unfoldable pub bitAt : List ℕ → ℕ → ℕ
@@ -25,28 +25,28 @@ isMarked m c = not (eqb (bitAt m c) 0)
 unfoldable pub unmarked : List ℕ → ℕ → Bool
 unmarked m c = not (isMarked m c)
 
--- the marks are those of the cells met
-pub record Marks (m met : List ℕ) : Type 0 where
-  pub each : (k : ℕ) → bitAt m k ≡ count k met
+-- the marks are those of the cells reached
+pub record Marks (m reached : List ℕ) : Type 0 where
+  pub each : (k : ℕ) → bitAt m k ≡ count k reached
 
 -- how many of the cells below n are marked
 unfoldable pub bits : List ℕ → ℕ → ℕ
 bits m zero = 0
 bits m (suc n) = bits m n + bitAt m n
 
--- so many of n cells are not marked, but for cell 0, which is not
-pub record Unmet (n : ℕ) (m : List ℕ) (left : ℕ) : Type 0 where
+-- cell 0 is not marked, and beside it so many of the n cells are not
+pub record Unreached (n : ℕ) (m : List ℕ) (left : ℕ) : Type 0 where
   pub head : bitAt m 0 ≡ 0
   pub many : left + 1 + bits m n ≡ n
 
--- the first of the cells met that does not pass the test; n where each does
-pub record FirstMisfit (fits : ℕ → Bool) (met : List ℕ) (n kept : ℕ) : Type 0 where
-  pub most : kept ≤ n
-  pub least : (c : ℕ) → c < kept → 0 < count c met → fits c ≡ true
-  pub found : kept < n → (0 < count kept met) × (fits kept ≡ false)
+-- the lowest of the cells reached that does not pass the test; n where each does
+pub record FirstMisfit (fits : ℕ → Bool) (reached : List ℕ) (n lowest : ℕ) : Type 0 where
+  pub most : lowest ≤ n
+  pub least : (c : ℕ) → c < lowest → 0 < count c reached → fits c ≡ true
+  pub found : lowest < n → (0 < count lowest reached) × (fits lowest ≡ false)
 
 -- what a walk leaves
-pub record Walked (fits : ℕ → Bool) (n : ℕ) (r : Traversal) (m : List ℕ) (w : Stop × List ℕ) : Type 0 where
+pub record Walked (fits : ℕ → Bool) (n : ℕ) (r : MarkedWalk) (m : List ℕ) (w : Stop × List ℕ) : Type 0 where
   pub stop : r .stop ≡ w .0
   pub marks : Marks m (w .1)
-  pub kept : FirstMisfit fits (w .1) n (r .kept)
+  pub lowest : FirstMisfit fits (w .1) n (r .lowest)

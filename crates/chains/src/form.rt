@@ -1,5 +1,5 @@
-// The form of a store: its first fault. The chains are walked once each; each cell met is marked, and its
-// kind looked at.
+// What is broken in a store: its first fault. A sound store is seen without marks (sound.rt). Else the chains
+// are walked once more, sales first; each cell reached is marked, and the lowest whose kind does not fit is kept.
 use crate::FREE;
 use crate::SALE;
 use crate::marks::is_marked;
@@ -19,7 +19,7 @@ ghost use Rattle.answers.specs.declared.Check.the-variants.{Clear};
 ghost use Rattle.cells.specs.Cells.{cells, lengthFits};
 ghost use Rattle.cells.specs.Chains.{firstFrom};
 ghost use Rattle.cells.specs.Faults.{kindFault, formFault, faultOf, faultCheck};
-ghost use Rattle.chains.specs.Marks.{Marks, Unmet, unmarked};
+ghost use Rattle.chains.specs.Marks.{Marks, Unreached, unmarked};
 
 // The longest store, its cells, and a word of marks for each 64 of them, rounded up.
 const LONGEST: usize = 65536;
@@ -27,6 +27,11 @@ const LONGEST: usize = 65536;
 const CELLS: usize = LONGEST / 64;
 
 const MARKS: usize = (CELLS + 63) / 64;
+
+// A word in which each cell is marked, and one in which each but cell 0 is.
+const ALL: u64 = 18446744073709551615;
+
+const ALL_BUT_FIRST: u64 = 18446744073709551614;
 
 // The length is as said.
 pub fn length_fits(s: &[u8]) -> bool
@@ -50,7 +55,7 @@ fn marked_below(marks: &[u64], end: usize) -> usize
     if end < 64 {
         return 1;
     }
-    if marks[0] != 18446744073709551614 {
+    if marks[0] != ALL_BUT_FIRST {
         return 1;
     }
     let mut i: usize = 1;
@@ -58,7 +63,7 @@ fn marked_below(marks: &[u64], end: usize) -> usize
         if end - 64 * i < 64 {
             break 64 * i;
         }
-        if marks[i] != 18446744073709551615 {
+        if marks[i] != ALL {
             break 64 * i;
         }
         i += 1;
@@ -84,10 +89,10 @@ fn first_unmarked(marks: &[u64], end: usize) -> usize
     at
 }
 
-// The first cell from 1 on, below the end, that was not met; or the end. Where as many cells were met as there
+// The first cell from 1 on, below the end, that was not reached; or the end. Where as many cells were reached as there
 // are, the marks need no look.
-fn first_unmet(marks: &[u64], cells: usize, end: usize, left: usize) -> usize
-    requires { ⌜ ((end ≤ cells) × (cells ≤ 64 * length (now marks))) × ((1 ≤ end) × Unmet cells (now marks) left) ⌝ }
+fn first_unreached(marks: &[u64], cells: usize, end: usize, left: usize) -> usize
+    requires { ⌜ ((end ≤ cells) × (cells ≤ 64 * length (now marks))) × ((1 ≤ end) × Unreached cells (now marks) left) ⌝ }
     ensures { λ r. ⌜ r ≡ firstFrom (unmarked (now (marks .entry))) 1 (end - 1) ⌝ }
 {
     if left == 0 {
@@ -114,15 +119,18 @@ fn form_fault(s: &[u8], marks: &mut [u64]) -> Fault
 {
     let cells = s.len() / 64;
     let sales = walk(s, marks, index_at(s, 0), SALE, cells, cells - 1);
-    let sold = sales.stop;
-    match sold {
+    let sales_stop = sales.stop;
+    match sales_stop {
         Stop::Broken(c) => Fault::Index(c),
         Stop::End => {
-            let free = walk(s, marks, index_at(s, 2), FREE, sales.kept, sales.left);
-            let spare = free.stop;
-            match spare {
+            let free = walk(s, marks, index_at(s, 2), FREE, sales.lowest, sales.left);
+            let free_stop = free.stop;
+            match free_stop {
                 Stop::Broken(c) => Fault::Index(c),
-                Stop::End => kind_fault(cells, first_unmet(marks, cells, free.kept, free.left)),
+                // The first cell not reached below the lowest misfit, else that misfit.
+                Stop::End => {
+                    kind_fault(cells, first_unreached(marks, cells, free.lowest, free.left))
+                }
             }
         }
     }
@@ -138,7 +146,7 @@ fn marked_fault(s: &[u8]) -> Fault
 }
 
 // The first fault, in the order of the checks.
-pub fn first_fault(s: &[u8]) -> Fault
+fn first_fault(s: &[u8]) -> Fault
     ensures { λ r. ⌜ r ≡ faultOf (now (s .entry)) ⌝ }
 {
     if !length_fits(s) {

@@ -12,28 +12,31 @@ const SALE: usize = 1;
 
 const FREE: usize = 0;
 
-// What the walk of a chain leaves.
-pub struct Traversal {
+// What the walk of a chain with marks leaves.
+pub struct MarkedWalk {
     pub stop: Stop,
-    // The first cell met so far, in either chain, whose kind does not fit; the number of cells where each does.
-    pub kept: usize,
-    // Cells that were not met, but for cell 0.
+    // The lowest cell reached so far, in either chain, whose kind does not fit; the number of cells where each does.
+    pub lowest: usize,
+    // Cells that were not reached in either chain, but for cell 0.
     pub left: usize,
 }
 
 // How far the walk of both chains side by side came.
-pub struct BothWalked {
+pub struct BothWalk {
     // No fault was seen.
     pub going: bool,
+    // Where each chain goes on.
     pub sold: usize,
     pub free: usize,
-    // Cells that were not met, but for cell 0.
+    // Cells that were not counted, but for cell 0.
     pub left: usize,
 }
 
 // How the walk of one chain went.
-pub struct OneWalked {
+pub struct OneWalk {
+    // It came to the chain's end, and no fault was seen.
     pub ended: bool,
+    // Cells that were not counted, but for cell 0.
     pub left: usize,
 }
 

@@ -1,9 +1,9 @@
 // A sound store is seen without marks. A chain that ends has no cell twice; two chains of different kinds have
-// no cell in common; and so many cells of them as there are are all. Both chains are walked side by side, so that
-// a step of the one does not wait for the other.
-use crate::BothWalked;
+// no cell in common; and as many cells as the store has beside cell 0 are all of them. Both chains are walked side
+// by side, so that a step of the one does not wait for the other.
+use crate::BothWalk;
 use crate::FREE;
-use crate::OneWalked;
+use crate::OneWalk;
 use crate::SALE;
 use cells::fields::index_at;
 use cells::fields::link_of;
@@ -14,7 +14,7 @@ ghost use Rattle.cells.specs.Cells.{cells, lengthFits, formed};
 ghost use Rattle.chains.specs.Sound.{BothUpTo, OneUpTo};
 
 // Both chains, up to the end of the shorter one.
-fn walk_both(s: &[u8]) -> BothWalked
+fn walk_both(s: &[u8]) -> BothWalk
     requires { ⌜ 1 ≤ cells (now s) ⌝ }
     ensures { λ r. ⌜ (r .going ≡ true → BothUpTo (now (s .entry)) (r .sold) (r .free) (r .left)) ⌝ }
 {
@@ -50,7 +50,7 @@ fn walk_both(s: &[u8]) -> BothWalked
         sold = sale.next;
         free = spare.next;
     };
-    BothWalked {
+    BothWalk {
         going: going,
         sold: sold,
         free: free,
@@ -59,7 +59,7 @@ fn walk_both(s: &[u8]) -> BothWalked
 }
 
 // One chain, from an index on.
-fn walk_one(s: &[u8], first: usize, kind: usize, most: usize) -> OneWalked
+fn walk_one(s: &[u8], first: usize, kind: usize, most: usize) -> OneWalk
     ensures { λ r. ⌜ (r .ended ≡ true → OneUpTo (now (s .entry)) kind first 0 most (r .left)) ⌝ }
 {
     let cells = s.len() / 64;
@@ -82,7 +82,7 @@ fn walk_one(s: &[u8], first: usize, kind: usize, most: usize) -> OneWalked
         left -= 1;
         at = link.next;
     };
-    OneWalked {
+    OneWalk {
         ended: ended,
         left: left,
     }

@@ -1,5 +1,5 @@
 // The walk of a chain.
-use crate::Traversal;
+use crate::MarkedWalk;
 use crate::marks::is_marked;
 use crate::marks::mark;
 use cells::Stop;
@@ -13,36 +13,36 @@ ghost use lib.ListN.{length};
 ghost use Rattle.cells.specs.Chains.{count};
 ghost use Rattle.cells.specs.Cells.{cells, kindOf};
 ghost use Rattle.cells.specs.Faults.{walkOf};
-ghost use Rattle.chains.specs.Marks.{Marks, Unmet, FirstMisfit, Walked};
+ghost use Rattle.chains.specs.Marks.{Marks, Unreached, FirstMisfit, Walked};
 
-// The smaller of a misfit and the one kept.
-fn lesser(misfit: bool, at: usize, kept: usize) -> usize
-    ensures { λ r. ⌜ r ≡ cond misfit (cond (ltb at kept) at kept) kept ⌝ }
+// The lower of two cells, where the first one is a misfit; else the second.
+fn lesser(misfit: bool, at: usize, lowest: usize) -> usize
+    ensures { λ r. ⌜ r ≡ cond misfit (cond (ltb at lowest) at lowest) lowest ⌝ }
 {
     if misfit {
-        if at < kept {
+        if at < lowest {
             return at;
         }
-        return kept;
+        return lowest;
     }
-    kept
+    lowest
 }
 
-// From an index on to the chain's end; marks each cell met and keeps the first whose kind is another.
+// From an index on until it stops: marks each cell reached, counts it, and keeps the lowest one whose kind is another.
 pub fn walk(
     s: &[u8],
     marks: &mut [u64],
     first: usize,
     kind: usize,
     misfit: usize,
-    unmet: usize,
-) -> Traversal
-    requires { ⌜ (cells (now s) ≤ 64 * length (now marks)) × Unmet (cells (now s)) (now marks) unmet ⌝ }
-    ensures { λ r. ⌜ Unmet (cells (now (s .entry))) (now (marks .exit)) (r .left) × ((fits : ℕ → Bool) (met : List ℕ) → Marks (now (marks .entry)) met → FirstMisfit fits met (cells (now (s .entry))) misfit → ((c : ℕ) → count c met ≡ 0 → fits c ≡ eqb (kindOf (now (s .entry)) c) kind) → Walked fits (cells (now (s .entry))) r (now (marks .exit)) (walkOf (now (s .entry)) (cells (now (s .entry))) met 0 first)) ⌝ }
+    unreached: usize,
+) -> MarkedWalk
+    requires { ⌜ (cells (now s) ≤ 64 * length (now marks)) × Unreached (cells (now s)) (now marks) unreached ⌝ }
+    ensures { λ r. ⌜ Unreached (cells (now (s .entry))) (now (marks .exit)) (r .left) × ((fits : ℕ → Bool) (reached : List ℕ) → Marks (now (marks .entry)) reached → FirstMisfit fits reached (cells (now (s .entry))) misfit → ((c : ℕ) → count c reached ≡ 0 → fits c ≡ eqb (kindOf (now (s .entry)) c) kind) → Walked fits (cells (now (s .entry))) r (now (marks .exit)) (walkOf (now (s .entry)) (cells (now (s .entry))) reached 0 first)) ⌝ }
 {
     let cells = s.len() / 64;
-    let mut left = unmet;
-    let mut kept = misfit;
+    let mut left = unreached;
+    let mut lowest = misfit;
     let mut from: usize = 0;
     let mut at = first;
     let stop = loop {
@@ -58,13 +58,13 @@ pub fn walk(
         mark(marks, at);
         left -= 1;
         let link = link_of(s, at);
-        kept = lesser(link.kind != kind, at, kept);
+        lowest = lesser(link.kind != kind, at, lowest);
         from = at;
         at = link.next;
     };
-    Traversal {
+    MarkedWalk {
         stop: stop,
-        kept: kept,
+        lowest: lowest,
         left: left,
     }
 }

@@ -1,6 +1,7 @@
 -- The bench sheet's cases that are proved, P1 to P11 and the limits of the checks, and rows of the cards, as rows of one table (document 01, "Bench sheet"; document 02, cards 1, 2 and 4 to 7). Assumes nothing.
 use mathlib.Core.Path.{_≡_}
-use mathlib.Core.List.{List, [], _∷_, _++_}
+use mathlib.Core.Bool.{cond}
+use mathlib.Core.List.{List, [], _∷_, _++_, map}
 use Prim.Native.Nat.{ℕ, suc, _+_, _-_, _%_, _<_}
 use lib.IntN.{pos, negsuc}
 use lib.ListN.{length, getD, set, drop}
@@ -25,7 +26,7 @@ use Rattle.sealing.specs.Sealing.{sealCall, openCall, openOldCall}
 use Rattle.converting.specs.Converting.{convertCall}
 use Rattle.run_sealing.specs.RunSealing.{sealRunCall, openRunCall}
 use Rattle.walking.specs.Walking.{walkChecks, jumpChecks}
-use Rattle.cells.specs.Cells.{free, cellNamed, cellBefore}
+use Rattle.cells.specs.Cells.{isLength, free, cellNamed, cellBefore}
 use Rattle.cells.specs.Changes.{fresh, filled, emptied}
 use Rattle.sales.specs.declared.Sale.{Sale}
 use Rattle.sales.specs.Sale.{cashOf}
@@ -314,8 +315,9 @@ table =
     ∷ record { got = openedByRun 1 newOppParcel; want = 0 ∷ 3 ∷ 0 ∷ 1 ∷ 2 ∷ 9 ∷ [] }  -- opened from a run: the answer and the output
     ∷ record { got = openedByRun 2 (set newMroParcel 34 0); want = 9 ∷ 0 ∷ 0 ∷ 0 ∷ 0 ∷ 9 ∷ [] }  -- refused with 9, where the tag's last byte differs
     -- ---- card 7: what is broken in the store
+    ∷ record { got = map (λ n. cond (isLength n) 1 0) (0 ∷ 63 ∷ 64 ∷ 127 ∷ 128 ∷ 129 ∷ 192 ∷ 65472 ∷ 65535 ∷ 65536 ∷ 65537 ∷ 65600 ∷ []); want = 0 ∷ 0 ∷ 0 ∷ 0 ∷ 1 ∷ 0 ∷ 1 ∷ 1 ∷ 0 ∷ 1 ∷ 0 ∷ 0 ∷ [] }  -- the lengths of a store, 1, and others, 0
     ∷ record { got = brokenBy (zeros 64); want = 18 ∷ 0 ∷ [] }  -- one cell alone,
-    ∷ record { got = brokenBy (set (nines 129) 0 1); want = 18 ∷ 0 ∷ [] }  -- and a byte too many before all else
+    ∷ record { got = brokenBy (nines 129); want = 18 ∷ 0 ∷ [] }  -- and a byte too many before all else
     ∷ record { got = brokenBy (set (fresh 3) 0 3); want = 19 ∷ 0 ∷ [] }  -- an index past the last cell: the first sale's,
     ∷ record { got = brokenBy (set (fresh 3) 2 3); want = 19 ∷ 0 ∷ [] }  -- the first free one,
     ∷ record { got = brokenBy (set (fresh 3) 64 3); want = 19 ∷ 1 ∷ [] }  -- and one that cell 1 holds
@@ -323,15 +325,22 @@ table =
     ∷ record { got = brokenBy (set (fresh 3) 128 1); want = 19 ∷ 2 ∷ [] }  -- by a ring,
     ∷ record { got = brokenBy (set (oneSold 3) 128 1); want = 19 ∷ 2 ∷ [] }  -- by a free cell that names a sale,
     ∷ record { got = brokenBy (set (oneSold 3) 2 1); want = 19 ∷ 0 ∷ [] }  -- and by both heads
-    ∷ record { got = brokenBy (set (set (oneSold 3) 64 5) 2 5); want = 19 ∷ 1 ∷ [] }  -- both chains broken: the sales' first
-    ∷ record { got = brokenBy (set (set (fresh 3) 66 1) 128 3); want = 19 ∷ 2 ∷ [] }  -- an index before a kind of a cell below
+    ∷ record { got = brokenBy (set (set (oneSold 3) 64 5) 2 5); want = 19 ∷ 1 ∷ [] }  -- both chains broken: the sales' first,
+    ∷ record { got = brokenBy (set (set (twoSales 4) 64 2) 2 9); want = 19 ∷ 1 ∷ [] }  -- a ring there too before an index past the end among the free
+    ∷ record { got = brokenBy (set (set (fresh 3) 66 1) 128 3); want = 19 ∷ 2 ∷ [] }  -- an index before a kind of a cell below,
+    ∷ record { got = brokenBy (set (set (oneSold 3) 66 0) 128 3); want = 19 ∷ 2 ∷ [] }  -- and of the free before a kind of the sales
     ∷ record { got = brokenBy (set (fresh 3) 130 1); want = 20 ∷ 2 ∷ [] }  -- kind 1 among the free,
     ∷ record { got = brokenBy (set (oneSold 3) 66 0); want = 20 ∷ 1 ∷ [] }  -- 0 and 2 among the sales
     ∷ record { got = brokenBy (set (oneSold 3) 66 2); want = 20 ∷ 1 ∷ [] }
-    ∷ record { got = brokenBy (set (fresh 3) 64 0); want = 20 ∷ 2 ∷ [] }  -- a cell in neither chain
+    ∷ record { got = brokenBy (set (fresh 4) 64 0); want = 20 ∷ 2 ∷ [] }  -- cells in neither chain: the first of two
     ∷ record { got = brokenBy (set (set (fresh 4) 64 3) 194 1); want = 20 ∷ 2 ∷ [] }  -- a missing cell before a kind above it,
-    ∷ record { got = brokenBy (set (set (fresh 4) 64 3) 66 1); want = 20 ∷ 1 ∷ [] }  -- a kind before a missing cell above it,
-    ∷ record { got = brokenBy (set (set (fresh 4) 130 9) 194 9); want = 20 ∷ 2 ∷ [] }  -- and of two kinds the lower cell's
+    ∷ record { got = brokenBy (set (set (fresh 4) 64 3) 66 1); want = 20 ∷ 1 ∷ [] }  -- a kind before a missing cell above it
+    ∷ record { got = brokenBy (set (set (fresh 4) 130 9) 194 9); want = 20 ∷ 2 ∷ [] }  -- of two kinds the lower cell's: among the free,
+    ∷ record { got = brokenBy (set (set (twoSales 4) 66 0) 130 0); want = 20 ∷ 1 ∷ [] }  -- among the sales, chained downward,
+    ∷ record { got = brokenBy (set (set (oneSold 3) 66 0) 130 1); want = 20 ∷ 1 ∷ [] }  -- a sale's below a free cell's,
+    ∷ record { got = brokenBy (set (set (set (fresh 3) 0 2) 64 0) 66 1); want = 20 ∷ 1 ∷ [] }  -- and a free cell's below a sale's
+    ∷ record { got = finds (takeChecks (zeros 32) (paid 1) (set (oneSold 2) 64 2)); want = 19 ∷ 1 ∷ [] }  -- 19 before 16 and 15,
+    ∷ record { got = finds (totalChecks sampleKey (set (twoSales 3) 66 0)); want = 20 ∷ 1 ∷ [] }  -- 20 before 9
     ∷ record { got = answered (cancelCall (zeros 32) 7 1 (set (oneSold 3) 64 3)); want = 19 ∷ 1 ∷ set (oneSold 3) 64 3 }  -- a call that would write: the answer and the store, unchanged
     ∷ []
 

@@ -14,29 +14,23 @@ use Rattle.chains.proofs.form.length_fits.Reads as length-fits-reads
 use Rattle.chains.proofs.form.marked_fault.Reads as marked-fault-reads
 use Rattle.chains.proofs.sound.is_sound.Reads as is-sound-reads
 
--- src/form.rt:143:9
 length-fits-requires : tie.Need-length-fits-requires
 length-fits-requires c κs = search needs
 
--- src/form.rt:144:9
 returns : tie.Need-returns
 unfolding faultOf lengthOr
 returns c = rw (sym (c .before .length-fits .ensures) ∙ not-true _ (c .if1 .taken))
 
--- src/form.rt:146:8
 is-sound-requires : tie.Need-is-sound-requires
 unfolding cells
 is-sound-requires c κs = let l = long-of _ (sym (c .before .length-fits .ensures) ∙ not-false _ (c .if1 .left)) in omega (arith, l .least)
 
--- src/form.rt:147:9
 returns-2 : tie.Need-returns-2
 returns-2 c = sym (formed-sound _ (c .before .is-sound .ensures (c .if2 .taken) (sym (c .before .before .before .length-fits .ensures) ∙ not-false _ (c .before .before .if1 .left))))
 
--- src/form.rt:149:5
 marked-fault-requires : tie.Need-marked-fault-requires
 marked-fault-requires c κs = sym (c .before .before .before .length-fits .ensures) ∙ not-false _ (c .before .before .if1 .left)
 
--- src/form.rt:140:1
 returns-3 : tie.Need-returns-3
 unfolding faultOf lengthOr
 returns-3 c = rw (sym (c .before .before .before .before .length-fits .ensures) ∙ not-false _ (c .before .before .before .if1 .left)) (c .marked-fault .ensures)

@@ -5,12 +5,10 @@ use Rattle.chains.proofs.form.kind_fault.Tie as tie
 use Rattle.chains.proofs.form.kind_fault.Reads as reads
 use Rattle.chains.proofs.form.kind_fault.Lts as lts
 
--- src/form.rt:98:1
 returns : tie.Need-returns
 unfolding kindFault
 returns c = rw (lt-ltb _ _ (c .if1 .taken))
 
--- src/form.rt:98:1
 returns-2 : tie.Need-returns-2
 unfolding kindFault
 returns-2 c = rw (le-ltb _ _ (c .if1 .left))

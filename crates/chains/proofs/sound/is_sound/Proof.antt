@@ -10,31 +10,24 @@ use Rattle.chains.proofs.sound.is_sound.Lts as lts
 use Rattle.chains.proofs.sound.walk_both.Reads as walk-both-reads
 use Rattle.chains.proofs.sound.walk_one.Reads as walk-one-reads
 
--- src/sound.rt:94:9
 walk-both-requires : tie.Need-walk-both-requires
 walk-both-requires c κs = search needs
 
--- src/sound.rt:96:9
 returns : tie.Need-returns
 returns c = λ h. absurd (false≢true h)
 
--- src/sound.rt:98:9
 walk-one-requires : tie.Need-walk-one-requires
 walk-one-requires c κs = search needs
 
--- src/sound.rt:100:9
 returns-2 : tie.Need-returns-2
 returns-2 c = λ h. absurd (false≢true h)
 
--- src/sound.rt:102:9
 walk-one-requires-2 : tie.Need-walk-one-requires-2
 walk-one-requires-2 c κs = search needs
 
--- src/sound.rt:104:9
 returns-3 : tie.Need-returns-3
 returns-3 c = λ h. absurd (false≢true h)
 
--- src/sound.rt:90:1
 returns-4 : tie.Need-returns-4
 returns-4 c = λ h long.
     ended-formed _ _ _ _ _ _ (long-of _ long) (c .before .before .before .before .before .before .before .before .before .walk-both .ensures (not-false _ (c .before .before .before .before .before .before .before .if1 .left))) (c .before .before .before .before .before .before .walk-one .ensures (not-false _ (c .before .before .before .before .if2 .left))) (c .before .before .before .walk-one2 .ensures (not-false _ (c .before .if3 .left))) (eqb-true _ 0 h)

@@ -19,43 +19,35 @@ Inv-loop s cells left₀ sold₀ free₀ left sold free = BothUpTo s sold free l
 abbrev μ-loop : tie.MeasureT-loop
 μ-loop s cells left₀ sold₀ free₀ left sold free = left
 
--- src/sound.rt:20:20
 sub-left : tie.Need-sub-left Inv-loop μ-loop
 unfolding cells
 sub-left c = omega arith
 
--- src/sound.rt:21:9
 index-at-requires : tie.Need-index-at-requires Inv-loop μ-loop
 unfolding cells
 index-at-requires c κs = omega arith
 
--- src/sound.rt:22:9
 index-at-requires-2 : tie.Need-index-at-requires-2 Inv-loop μ-loop
 unfolding cells
 index-at-requires-2 c κs = omega arith
 
--- src/sound.rt:23:9
 loop-holds : tie.Need-loop-holds Inv-loop μ-loop
 unfolding cells firstSale firstFree
 loop-holds c =
     let p = c .before .before .before .pre in
     record { sales = []; spare = []; of-sales = sym (c .before .index-at .ensures); of-spare = sym (c .index-at2 .ensures); many = omega arith }
 
--- src/sound.rt:39:13
 link-of-requires : tie.Need-link-of-requires Inv-loop μ-loop
 unfolding cells
 link-of-requires c κs = omega arith
 
--- src/sound.rt:40:13
 link-of-requires-2 : tie.Need-link-of-requires-2 Inv-loop μ-loop
 unfolding cells
 link-of-requires-2 c κs = omega arith
 
--- src/sound.rt:23:9
 loop-less : tie.Need-loop-less Inv-loop μ-loop
 loop-less c = omega arith
 
--- src/sound.rt:23:9
 loop-again : tie.Need-loop-again Inv-loop μ-loop
 unfolding cells
 loop-again c =
@@ -64,31 +56,24 @@ loop-again c =
     let b = c .before .before .before .before .link-of2 .ensures in
     rw (a .0, b .0) (both-more _ (l .sold) (l .free) (l .left) (l .inv) (c .before .before .before .before .before .before .before .before .before .before .if1 .left) (c .before .before .before .before .before .before .before .before .before .if2 .left) (omega arith) (omega arith) (sym (a .1) ∙ c .before .before .if6 .left) (sym (b .1) ∙ c .if7 .left) (omega arith))
 
--- src/sound.rt:15:1
 returns : tie.Need-returns Inv-loop μ-loop
 returns c = λ h. c .before .loop .inv
 
--- src/sound.rt:15:1
 returns-2 : tie.Need-returns-2 Inv-loop μ-loop
 returns-2 c = λ h. c .before .before .loop .inv
 
--- src/sound.rt:15:1
 returns-3 : tie.Need-returns-3 Inv-loop μ-loop
 returns-3 c = λ h. absurd (false≢true h)
 
--- src/sound.rt:15:1
 returns-4 : tie.Need-returns-4 Inv-loop μ-loop
 returns-4 c = λ h. absurd (false≢true h)
 
--- src/sound.rt:15:1
 returns-5 : tie.Need-returns-5 Inv-loop μ-loop
 returns-5 c = λ h. absurd (false≢true h)
 
--- src/sound.rt:15:1
 returns-6 : tie.Need-returns-6 Inv-loop μ-loop
 returns-6 c = λ h. absurd (false≢true h)
 
--- src/sound.rt:15:1
 returns-7 : tie.Need-returns-7 Inv-loop μ-loop
 returns-7 c = λ h. absurd (false≢true h)
 

@@ -18,24 +18,19 @@ Inv-loop s first kind most cells left₀ at₀ left at = OneUpTo s kind first at
 abbrev μ-loop : tie.MeasureT-loop
 μ-loop s first kind most cells left₀ at₀ left at = left
 
--- src/sound.rt:66:9
 loop-holds : tie.Need-loop-holds Inv-loop μ-loop
 loop-holds c = record { chain = []; segment = refl; many = omega arith }
 
--- src/sound.rt:76:13
 link-of-requires : tie.Need-link-of-requires Inv-loop μ-loop
 unfolding cells
 link-of-requires c κs = omega arith
 
--- src/sound.rt:80:9
 sub-left : tie.Need-sub-left Inv-loop μ-loop
 sub-left c = omega arith
 
--- src/sound.rt:66:9
 loop-less : tie.Need-loop-less Inv-loop μ-loop
 loop-less c = omega arith
 
--- src/sound.rt:66:9
 loop-again : tie.Need-loop-again Inv-loop μ-loop
 unfolding cells
 loop-again c =
@@ -43,19 +38,15 @@ loop-again c =
     let link = c .before .before .link-of .ensures in
     rw (link .0) (one-more _ _ _ (l .at) _ (l .left) (l .inv) (c .before .before .before .before .before .if1 .left) (omega arith) (sym (link .1) ∙ c .if4 .left) (omega arith))
 
--- src/sound.rt:60:1
 returns : tie.Need-returns Inv-loop μ-loop
 returns c = λ h. rw (c .if1 .taken) at (c .before .loop .inv)
 
--- src/sound.rt:60:1
 returns-2 : tie.Need-returns-2 Inv-loop μ-loop
 returns-2 c = λ h. absurd (false≢true h)
 
--- src/sound.rt:60:1
 returns-3 : tie.Need-returns-3 Inv-loop μ-loop
 returns-3 c = λ h. absurd (false≢true h)
 
--- src/sound.rt:60:1
 returns-4 : tie.Need-returns-4 Inv-loop μ-loop
 returns-4 c = λ h. absurd (false≢true h)
 
