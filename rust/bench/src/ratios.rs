@@ -81,19 +81,22 @@ const SMALLER: usize = 128;
 const LARGEST: [Size; 2] = [Cells(1024), Shuffled(1024)];
 
 const SOUND: [&str; 4] = [TAKE, CANCEL, READ, TOTAL];
-const DAMAGED: [&str; 7] = [
+const DAMAGED: [&str; 5] = [RING, CROSSED, LONG_CROSSED, MISSING, NO_KIND];
+/// All cells in one chain, which is walked to its end without marks and then with them.
+const ONE_CHAIN: [&str; 2] = [LONG_RING, LONG_PAST];
+const ANY_DAMAGE: [&str; 7] = [
     RING,
-    LONG_RING,
     CROSSED,
     LONG_CROSSED,
-    LONG_PAST,
     MISSING,
     NO_KIND,
+    LONG_RING,
+    LONG_PAST,
 ];
 
 /// All bounds, a line each.
 #[rustfmt::skip]
-pub static BOUNDS: [Bound; 18] = [
+pub static BOUNDS: [Bound; 19] = [
     of(Library, &[SEAL, OPEN]).by(By::Who(ScalarC), 1.15),
     of(Library, &[OPEN, OPEN_REFUSED]).by(By::Calls(&[SEAL]), 1.10),
     of(Library, &[OPEN_OLD]).by(By::Calls(&[OPEN]), 1.05),
@@ -109,13 +112,14 @@ pub static BOUNDS: [Bound; 18] = [
     store(&SOUND, "store take, cancel, read, total").by(By::Quicker(&MARKS), 1.00),
     store(&SOUND, "store take, cancel, read, total").by(By::Quicker(&QUICKEST), 1.25),
     store(&DAMAGED, "store read, damaged").by(By::Quicker(&MARKS), 2.00),
+    store(&ONE_CHAIN, "store read, damaged, one chain").by(By::Quicker(&MARKS), 2.10).aim(2.0),
     // Without marks it is known late, but no later than a long one.
     store(&[SHORT_RING], "store read of a short ring").by(By::Calls(&[LONG_RING]), 1.00),
     // Of reads alone, which are the check and little else: a quicker sealing would count as growth.
     store(&[READ], "store read").with(&LARGEST).by(By::Growth(&QUICKEST), 1.10),
-    store(&DAMAGED, "store read, damaged, in order").with(&[Cells(1024)]).by(By::Growth(&QUICKEST), 1.10),
+    store(&ANY_DAMAGE, "store read, damaged, in order").with(&[Cells(1024)]).by(By::Growth(&QUICKEST), 1.10),
     // Small ones the library reads in 0.9 of the C's time; large shuffled ones make both wait for the second cache.
-    store(&DAMAGED, "store read, damaged, shuffled").with(&[Shuffled(1024)]).by(By::Growth(&QUICKEST), 1.20),
+    store(&ANY_DAMAGE, "store read, damaged, shuffled").with(&[Shuffled(1024)]).by(By::Growth(&QUICKEST), 1.20).aim(1.1),
 ];
 
 /// Calls of an implementation with all settings and the longest messages.
