@@ -131,8 +131,9 @@ extern "C" {
 #define CALMBAIZE_MEANS_CARD 2U
 
 /*
- * Refusals. No number is used for a second thing: 14, which versions up to 0.6.0 gave
- * for all that is 18, 19 and 20 now, is not given any more.
+ * Refusals. No number is used for a second thing: 14 (CALMBAIZE_REFUSED_STORE_FORM),
+ * which versions up to 0.6.0 gave for all that is 18, 19 and 20 now, is not given any
+ * more, and the name is gone.
  */
 #define CALMBAIZE_OK 0U                       /* nothing refused */
 #define CALMBAIZE_REFUSED_MODE 1U             /* mode not 1 or 2 */
@@ -152,7 +153,7 @@ extern "C" {
 #define CALMBAIZE_REFUSED_SALE_NUMBERS 16U    /* numbers present on take, absent else */
 #define CALMBAIZE_REFUSED_DONE_ALREADY 17U    /* parcel opens under the new start, not the old */
 #define CALMBAIZE_REFUSED_STORE_LENGTH 18U    /* store not 128 to 65,536 bytes in cells of 64 */
-#define CALMBAIZE_REFUSED_STORE_INDEX 19U     /* index past the last cell, or reached before */
+#define CALMBAIZE_REFUSED_STORE_INDEX 19U     /* index past the last cell, or of a cell reached before */
 #define CALMBAIZE_REFUSED_STORE_KIND 20U      /* kind that does not fit, or cell in neither chain */
 
 /* The refusal's number, or CALMBAIZE_OK. */
@@ -371,7 +372,9 @@ uint64_t calmbaize_jump(const uint8_t *start, size_t start_len,
  *   18   the length
  *   19   the indices, as a walk from cell 0 meets them, the chain of sales first:
  *        none is past the last cell, or of a cell that was reached before in
- *        either chain. The place is the cell that holds the index.
+ *        either chain. The place is the cell that holds the index. Cell 0 holds
+ *        two: the first sale's is meant where it is past the last cell, else the
+ *        first free cell's.
  *   20   where both walks end, the cells in their order from cell 1 on: each is
  *        in a chain, with kind 1 among sales and kind 0 among free cells. The
  *        place is the first cell that is not.

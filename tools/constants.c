@@ -314,7 +314,7 @@ static int sale_refused_in(size_t cell)
            calmbaize_place(cancelled) == cell && make("store_total") == cancelled;
 }
 
-/* Four free cells, one byte of a cell changed: every call is refused with the number and that place. */
+/* Four cells, three of them free, and one byte changed: every call is refused with the number and that place. */
 static int broken(size_t cell, size_t byte, uint8_t value, uint32_t number, size_t place)
 {
     uint64_t read, taken;

@@ -19,8 +19,8 @@ pub struct Refusal {
     /// What the call was refused for.
     pub ground: Ground,
     /// Where the ground lies: the index of the step for [`Ground::Step`]; the cell for
-    /// [`Ground::Tag`] of a sale in a store, for [`Ground::StoreKind`] and, as the one that holds
-    /// the index, for [`Ground::StoreIndex`], where it may be cell 0; 0 for the others here.
+    /// [`Ground::Tag`] of a sale in a store and for [`Ground::StoreKind`]; the cell that holds the
+    /// index, which may be cell 0, for [`Ground::StoreIndex`]; 0 for the others here.
     pub place: u32,
 }
 
@@ -50,9 +50,9 @@ impl From<Ground> for Refusal {
 macro_rules! grounds {
     ($($number:literal $name:ident $text:literal,)+) => {
         /// What a call is refused for. Its [number](Self::number) is the same in every interface
-        /// of the library; 14 is not given any more. In its text `{place}` stands for the [place](Refusal::place), `{cell}`
-        /// for the same as a cell, where it is one, and `{rounds}` for the
-        /// [allowed counts](Rounds::LIST).
+        /// of the library; 14 is not given any more. In its text `{place}` stands for the
+        /// [place](Refusal::place), `{cell}` for the same as a cell, where it is one, and `{rounds}`
+        /// for the [allowed counts](Rounds::LIST).
         #[derive(Clone, Copy, Debug, PartialEq, Eq, Hash)]
         #[non_exhaustive]
         pub enum Ground {

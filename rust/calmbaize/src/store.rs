@@ -6,8 +6,8 @@ use crate::{Ground, Key, Refusal, Sale, CELL_LEN, NONCE_TAIL_LEN, SALE_LEN};
 /// A store of sealed sales over a lent buffer of [`MIN_STORE_LEN`](crate::MIN_STORE_LEN) to
 /// [`MAX_STORE_LEN`](crate::MAX_STORE_LEN) bytes, a multiple of [`CELL_LEN`].
 ///
-/// It keeps nothing beside the buffer. Each call checks the whole buffer's form, as
-/// [`check`](Self::check) does alone, and refuses what is no store. A refused call changes no byte.
+/// It keeps nothing beside the buffer. Each call but [`format`](Self::format) checks the whole
+/// buffer's form, as [`check`](Self::check) does alone, and refuses what is no store. A refused call changes no byte.
 ///
 /// Each cell but the first holds one sale: its machine and sale number in the clear, the rest
 /// sealed under MRO with six rounds. From a [`format`](Self::format) on, with one key and these

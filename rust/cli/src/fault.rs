@@ -13,15 +13,18 @@ const KIND: usize = 2;
 
 /// What to do about a wrong length.
 const COPY_AGAIN: &str = "\
-Copy the store from the machine again and check the new copy: this one is cut
-short, has too much behind it, or is no store. Keep this file until then. Where
-the length stays wrong, put in another memory card, not another unit.
+Copy the store from the machine once more and check that copy: this one is cut
+short, has too much behind it, is of a later version or is no store. Keep this
+file until then. Where the length stays wrong, the memory that the store is in
+has to be changed, not the whole unit.
 ";
 
-/// What to do about a wrong cell.
+/// What to do about a wrong cell. A copy that was cut short has most often a whole number of cells.
 const KEEP: &str = "\
-Keep this file as it is for the route office, and don't format it: the sales in
-it are still there, sealed. Put in another memory card, not another unit.
+Copy the store from the machine once more and check that copy too. Keep this
+file as it is for the route office, and don't format it: sales that are in it
+may still be read. Where the new copy is broken too, the memory that the store
+is in has to be changed, not the whole unit.
 ";
 
 /// What a store is refused for, its wrong cell, and what to do. None where the ground is no fault of
@@ -52,7 +55,11 @@ fn wrong_index(bytes: &[u8], number: usize) -> Option<String> {
     let next = index(holder, NEXT);
     // Before the first sale no cell is reached, so that its index can only be past the last one.
     let (name, at, to) = match number {
-        0 if next < cells => ("first free index", FIRST_FREE, index(holder, FIRST_FREE)),
+        0 if next < cells => (
+            "first free cell's index",
+            FIRST_FREE,
+            index(holder, FIRST_FREE),
+        ),
         0 => ("first sale's index", NEXT, next),
         _ => ("next index", NEXT, next),
     };

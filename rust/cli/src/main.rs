@@ -56,7 +56,7 @@ impl fmt::Display for Failure {
 }
 
 /// Behind the refusal of a broken store.
-const SEE_CHECK: &str = "; see 'calmbaize store check'";
+const SEE_CHECK: &str = "; see 'calmbaize store check FILE'";
 
 impl From<Refusal> for Failure {
     fn from(refusal: Refusal) -> Self {

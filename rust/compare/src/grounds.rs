@@ -197,8 +197,8 @@ fn bad_length(_: &mut Prng, call: &mut Call, store: Arg) -> bool {
 /// That of cell 1, which ends the chain of sales.
 fn bad_index(prng: &mut Prng, call: &mut Call, store: Arg) -> bool {
     let cells = call[store].len() / CELL_LEN;
-    let past = prng.pick(&[1, cells, cells + 1, 65_535]);
-    set_index(&mut call[store], CELL_LEN, past);
+    let wrong = prng.pick(&[1, cells, cells + 1, 65_535]);
+    set_index(&mut call[store], CELL_LEN, wrong);
     true
 }
 

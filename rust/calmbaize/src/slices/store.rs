@@ -1,8 +1,8 @@
 //! The calls of a sale store.
 //!
-//! Each checks the store's form first, so that any bytes may be lent as a store: its length (18), its
-//! indices (19, with the cell that holds the first wrong one) and its kinds (20, with the first cell
-//! that is wrong).
+//! Each but [`format`], which checks the length alone, checks the store's form behind the key, so that
+//! any bytes may be lent as a store: its length (18), its indices (19, with the cell that holds the
+//! first wrong one) and its kinds (20, with the first cell that is wrong).
 
 use super::value;
 use crate::{ffi, Refusal, Sale, NONCE_TAIL_LEN};

@@ -128,10 +128,11 @@ Checks the form of a store, without a key. Of one that is right it prints the
 cells, cell 0 among them, such as
 cells 8 sales 2 free 5
 
-Of a broken one it prints the first thing that is wrong, the 64 bytes of that
-cell, and what to do, and ends with 1. It checks in this order: the length (18);
-the index of each cell along the sales and then along the free cells (19); each
-cell's kind, and whether it is in a chain (20). No sale is opened: see list.
+Of a broken one it prints the first thing that is wrong, the 64 bytes of the
+cell, where it is one, and what to do, and ends with 1. It checks in this order:
+the length (18); the indices, from cell 0 along the sales and then along the
+free cells (19); each cell's kind, and whether it is in a chain (20). No sale is
+opened: see list.
 
 usage: calmbaize store check FILE
 

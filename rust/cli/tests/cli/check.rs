@@ -51,11 +51,11 @@ const BROKEN: [([u16; 2], [Cell; 3], &str); 12] = [
     ([4, 2], [(0, 1), (3, 0), (0, 0)],
      "19: the first sale's index in cell 0 (bytes 0 and 1) is 4, and the last cell is 3"),
     ([1, 513], [(0, 1), (3, 0), (0, 0)],
-     "19: the first free index in cell 0 (bytes 2 and 3) is 513, and the last cell is 3"),
+     "19: the first free cell's index in cell 0 (bytes 2 and 3) is 513, and the last cell is 3"),
     ([4, 4], [(0, 1), (3, 0), (0, 0)],
      "19: the first sale's index in cell 0 (bytes 0 and 1) is 4, and the last cell is 3"),
     ([2, 2], [(0, 1), (3, 0), (0, 0)],
-     "19: the first free index in cell 0 (bytes 2 and 3) is 2, and cell 2 was reached before"),
+     "19: the first free cell's index in cell 0 (bytes 2 and 3) is 2, and cell 2 was reached before"),
     ([1, 2], [(65_535, 1), (3, 0), (0, 0)],
      "19: the next index in cell 1 (bytes 0 and 1) is 65535, and the last cell is 3"),
     ([1, 2], [(0, 1), (3, 0), (2, 0)],
@@ -99,8 +99,10 @@ cell 3:
   32  20 21 22 23 24 25 26 27 28 29 2a 2b 2c 2d 2e 2f
   48  30 31 32 33 34 35 36 37 38 39 3a 3b 3c 3d 3e 3f
 
-Keep this file as it is for the route office, and don't format it: the sales in
-it are still there, sealed. Put in another memory card, not another unit.
+Copy the store from the machine once more and check that copy too. Keep this
+file as it is for the route office, and don't format it: sales that are in it
+may still be read. Where the new copy is broken too, the memory that the store
+is in has to be changed, not the whole unit.
 ";
     assert_eq!(check("report", &bytes), (report.into(), Some(1)));
 }
@@ -108,27 +110,29 @@ it are still there, sealed. Put in another memory card, not another unit.
 #[test]
 fn lengths() {
     let is_not = "refused with 18: store is not 128 to 65,536 bytes in cells of 64; the file has";
-    for len in [0, 63, 64, 127, 129, 200, 65_535] {
-        let (text, status) = check("lengths", &vec![0; len]);
-        let first = format!("{is_not} {len} bytes\n\nCopy the store from the machine again ");
-        assert!(text.starts_with(&first), "{text}");
-        assert_eq!(status, Some(1));
-    }
-    for len in [65_537, 65_600, 200_000] {
-        let (text, status) = check("lengths", &vec![0; len]);
-        assert!(
-            text.starts_with(&format!("{is_not} more\n\nCopy ")),
-            "{text}"
-        );
-        assert_eq!(status, Some(1));
+    let advice = "\
+Copy the store from the machine once more and check that copy: this one is cut
+short, has too much behind it, is of a later version or is no store. Keep this
+file until then. Where the length stays wrong, the memory that the store is in
+has to be changed, not the whole unit.
+";
+    for len in [0, 63, 64, 127, 129, 200, 65_535, 65_537, 65_600, 200_000] {
+        let has = match len {
+            65_537.. => "more".to_string(),
+            _ => format!("{len} bytes"),
+        };
+        let report = format!("{is_not} {has}\n\n{advice}");
+        assert_eq!(check("lengths", &vec![0; len]), (report, Some(1)));
     }
 }
 
 #[test]
 fn a_file_that_cant_be_read() {
     let missing = folder("check-missing").join("till");
-    let error = fails(&["store", "check", missing.to_str().unwrap()], b"", 2);
-    assert!(error.contains("can't read "), "{error}");
+    for file in [missing.as_path(), missing.parent().unwrap()] {
+        let error = fails(&["store", "check", file.to_str().unwrap()], b"", 2);
+        assert!(error.contains("can't read "), "{error}");
+    }
 }
 
 /// Every shape of a store of four cells: the words say of its bytes what number and cell do.
@@ -149,7 +153,16 @@ fn the_words_agree_with_number_and_cell() {
         let place = refusal.place as usize;
         let says = |words: &str| text.lines().next().unwrap().contains(words);
         assert!(says(&format!("cell {place} ")), "{text}");
-        assert!(text.contains(&format!("\ncell {place}:\n")), "{text}");
+        let (_, shown) = text.split_once(&format!("\ncell {place}:\n")).unwrap();
+        let shown: Vec<&str> = shown
+            .lines()
+            .take(4)
+            .flat_map(|line| line[6..].split(' '))
+            .collect();
+        let held = bytes[64 * place..][..64]
+            .iter()
+            .map(|byte| format!("{byte:02x}"));
+        assert_eq!(shown, held.collect::<Vec<_>>(), "{text}");
         if refusal.ground == Ground::StoreIndex {
             met[1] += 1;
             let held = match place {

@@ -217,9 +217,9 @@ fn what_is_no_store_is_refused() {
     let named = ["--machine", "11", "--sale", "1"];
     let length = "store is not 128 to 65,536 bytes in cells of 64\n";
     let index = "index held by cell 0 is past the last cell, or of a cell reached before; \
-                 see 'calmbaize store check'\n";
+                 see 'calmbaize store check FILE'\n";
     let kind = "cell 1 is in neither chain, or its kind does not fit its chain; \
-                see 'calmbaize store check'\n";
+                see 'calmbaize store check FILE'\n";
     for (content, number, text) in [
         (vec![], 18, length),
         (b"150 cents".to_vec(), 18, length),

@@ -12,10 +12,10 @@ use crate::stores::sound::{sealed, Sound, SALES};
 use crate::stores::ways::{Effect, WAYS};
 use reference::store::{BODY_AT, BODY_LEN, CELL_LEN, STORE_LENS};
 
-/// Lengths around those that are allowed.
-const LENGTHS: [usize; 20] = [
-    0, 1, 4, 63, 64, 65, 127, 128, 129, 191, 192, 193, 4096, 65_472, 65_535, 65_536, 65_537,
-    65_599, 65_600, 131_072,
+/// Lengths that are allowed, and others around them.
+const ALLOWED: [usize; 5] = [128, 192, 4096, 65_472, 65_536];
+const REFUSED: [usize; 15] = [
+    0, 1, 4, 63, 64, 65, 127, 129, 191, 193, 65_535, 65_537, 65_599, 65_600, 131_072,
 ];
 
 /// Every way alone, every two of them, lengths, every bit of a sale, two sales alike, and all shapes
@@ -121,7 +121,7 @@ impl Run {
 
     /// Stores with nothing wrong but their lengths.
     fn lengths(&mut self, prng: &mut Prng) {
-        for len in LENGTHS {
+        for len in ALLOWED.into_iter().chain(REFUSED) {
             let cells = (len / CELL_LEN).max(1);
             for sales in [0, cells / 3, cells - 1] {
                 let mut store = Sound::random(prng, cells, sales);
@@ -130,8 +130,8 @@ impl Run {
                     let answer = self.compare(&call);
                     let passed = match answer >> 32 {
                         3 => true,
-                        18 => answer == refusal(18, 0) && !allowed(len),
-                        number => number < 18 && allowed(len),
+                        18 => answer == refusal(18, 0) && REFUSED.contains(&len),
+                        number => number < 18 && ALLOWED.contains(&len),
                     };
                     self.check
                         .record(passed, || format!("{call}: answer {answer:#x}"));
