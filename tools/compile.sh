@@ -45,8 +45,8 @@ trap 'rm -rf "$work"' EXIT
 "$bin/clang" "$target" -O0 -S -emit-llvm -x ir "$program" -o "$work/program.ll"
 
 # Where opening is left as a call, its answer comes through memory, and the caller branches on whether the
-# tag differs to look its number up.
-opening='/^define .*@"sealing::open_from"\(/s/ \{$/ alwaysinline {/'
+# tag differs to look its number up. Inlined, it leaves those beneath it as calls, which costs a tenth.
+opening='/^define .*@"(sealing::open_from|modes::open|opp::open)"\(/s/ \{$/ alwaysinline {/'
 
 # compile SED-SCRIPT OBJECT OPTIONS...: the program as the script changes it.
 compile() {
