@@ -67,7 +67,7 @@ uint64_t baseline_store_take(const uint8_t *key, size_t key_len,
                              uint32_t machine, uint32_t sale,
                              const uint8_t nonce_tail[8],
                              uint32_t amount, uint16_t column, uint8_t means,
-                             const uint8_t clock[6]);
+                             uint32_t price, uint16_t day);
 
 uint64_t baseline_store_cancel(const uint8_t *key, size_t key_len,
                                uint8_t *store, size_t store_len,
@@ -79,6 +79,11 @@ uint64_t baseline_store_total(const uint8_t *key, size_t key_len,
 
 uint64_t baseline_store_read(const uint8_t *store, size_t store_len,
                              uint32_t machine, uint32_t sale);
+
+uint64_t baseline_store_look_up(const uint8_t *key, size_t key_len,
+                                const uint8_t *store, size_t store_len,
+                                uint32_t machine, uint32_t sale,
+                                uint32_t *amount, uint32_t *price);
 
 /* What the library has no call for. */
 

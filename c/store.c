@@ -15,10 +15,11 @@ enum { CELL = 64, MIN_STORE = 128, MAX_STORE = 65536, MAX_CELLS = MAX_STORE / CE
 
 /* Where the parts of a cell begin. Cell 0's first sale stands where the others have their next index. */
 enum { NEXT = 0, FIRST_FREE = 2, KIND = 2, NUMBERS = 3, TAIL = 11, SEALED = 19 };
-enum { FREE = 0, SALE = 1 };
+/* A sale of the first kind has a clock in its record, one of the second a price and a day. */
+enum { FREE = 0, UNPRICED = 1, PRICED = 2 };
 
 /* Where the parts of a record begin. */
-enum { AMOUNT = 0, COLUMN = 4, MEANS = 6, CLOCK = 7, RECORD = 13 };
+enum { AMOUNT = 0, COLUMN = 4, MEANS = 6, PRICE = 7, DAY = 11, RECORD = 13 };
 enum { COIN = 1, ROUNDS = 6 };
 
 /* Numbers stand low byte first. */
@@ -52,13 +53,19 @@ static int allowed_length(size_t len)
     return len >= MIN_STORE && len <= MAX_STORE && len % CELL == 0;
 }
 
-/* Whether the rest of a chain, from an index on, has exactly so many cells, all of the kind. */
-static int is_rest(const uint8_t *store, size_t cells, size_t index, uint8_t kind, size_t left)
+/* Whether a kind fits its chain: that of the sales, or that of the free cells. */
+static inline int fits(uint8_t kind, int sold)
+{
+    return sold ? kind == UNPRICED || kind == PRICED : kind == FREE;
+}
+
+/* Whether the rest of a chain, from an index on, has exactly so many cells, whose kinds all fit. */
+static int is_rest(const uint8_t *store, size_t cells, size_t index, int sold, size_t left)
 {
     while (index != 0) {
         if (index >= cells || left == 0)
             return 0;
-        if (store[CELL * index + KIND] != kind)
+        if (!fits(store[CELL * index + KIND], sold))
             return 0;
         left--;
         index = get16(store + CELL * index + NEXT);
@@ -80,15 +87,15 @@ static int is_sound(const uint8_t *store, size_t cells)
     while (sale != 0 && other != 0) {
         if (sale >= cells || other >= cells || left < 2)
             return 0;
-        if (store[CELL * sale + KIND] != SALE || store[CELL * other + KIND] != FREE)
+        if (!fits(store[CELL * sale + KIND], 1) || !fits(store[CELL * other + KIND], 0))
             return 0;
         left -= 2;
         sale = get16(store + CELL * sale + NEXT);
         other = get16(store + CELL * other + NEXT);
     }
     if (sale != 0)
-        return is_rest(store, cells, sale, SALE, left);
-    return is_rest(store, cells, other, FREE, left);
+        return is_rest(store, cells, sale, 1, left);
+    return is_rest(store, cells, other, 0, left);
 }
 
 /*
@@ -96,7 +103,7 @@ static int is_sound(const uint8_t *store, size_t cells)
  * whose kind does not fit. Refuses with the cell that held an index past the last cell or of a marked
  * cell.
  */
-static uint64_t follow(const uint8_t *store, size_t cells, size_t index, uint8_t kind,
+static uint64_t follow(const uint8_t *store, size_t cells, size_t index, int sold,
                        uint64_t marks[MAX_CELLS / 64], size_t *left, size_t *misfit)
 {
     size_t holder = 0;
@@ -107,7 +114,7 @@ static uint64_t follow(const uint8_t *store, size_t cells, size_t index, uint8_t
             return refuse(19, holder);
         marks[index / 64] |= mark;
         *left -= 1;
-        if (store[CELL * index + KIND] != kind && index < *misfit)
+        if (!fits(store[CELL * index + KIND], sold) && index < *misfit)
             *misfit = index;
         holder = index;
         index = get16(store + CELL * index + NEXT);
@@ -139,9 +146,9 @@ static uint64_t first_fault(const uint8_t *store, size_t cells)
 
     memset(marks, 0, (cells + 63) / 64 * sizeof *marks);
     marks[0] = 1;
-    fault = follow(store, cells, get16(store + NEXT), SALE, marks, &left, &misfit);
+    fault = follow(store, cells, get16(store + NEXT), 1, marks, &left, &misfit);
     if (fault == 0)
-        fault = follow(store, cells, get16(store + FIRST_FREE), FREE, marks, &left, &misfit);
+        fault = follow(store, cells, get16(store + FIRST_FREE), 0, marks, &left, &misfit);
     if (fault != 0)
         return fault;
     if (left != 0)
@@ -215,8 +222,8 @@ uint64_t baseline_store_format(uint8_t *store, size_t store_len)
 
 uint64_t baseline_store_take(const uint8_t *key, size_t key_len, uint8_t *store, size_t store_len,
                              uint32_t machine, uint32_t sale, const uint8_t nonce_tail[8],
-                             uint32_t amount, uint16_t column, uint8_t means,
-                             const uint8_t clock[6])
+                             uint32_t amount, uint16_t column, uint8_t means, uint32_t price,
+                             uint16_t day)
 {
     uint8_t record[RECORD], *cell;
     uint32_t index, before;
@@ -237,42 +244,72 @@ uint64_t baseline_store_take(const uint8_t *key, size_t key_len, uint8_t *store,
     put16(store + FIRST_FREE, get16(cell + NEXT));
     put16(cell + NEXT, get16(store + NEXT));
     put16(store + NEXT, index);
-    cell[KIND] = SALE;
+    cell[KIND] = PRICED;
     put32(cell + NUMBERS, machine);
     put32(cell + NUMBERS + 4, sale);
     memcpy(cell + TAIL, nonce_tail, SEALED - TAIL);
     put32(record + AMOUNT, amount);
     put16(record + COLUMN, column);
     record[MEANS] = means;
-    memcpy(record + CLOCK, clock, RECORD - CLOCK);
+    put32(record + PRICE, price);
+    put16(record + DAY, day);
     seal_sale(key, cell, record);
     return index;
 }
 
-uint64_t baseline_store_cancel(const uint8_t *key, size_t key_len, uint8_t *store,
-                               size_t store_len, uint32_t machine, uint32_t sale)
+/* The cell of the sale with these numbers, the cell before it and what it opens to; or the refusal. */
+static uint64_t open_named(const uint8_t *key, size_t key_len, const uint8_t *store,
+                           size_t store_len, uint32_t machine, uint32_t sale, uint32_t *before,
+                           uint8_t record[RECORD])
 {
-    uint8_t record[RECORD], *cell;
-    uint32_t index, before;
     uint64_t fault;
+    uint32_t index;
 
     if (key_len != KEY)
         return refuse(3, 0);
     fault = check_form(store, store_len);
     if (fault != 0)
         return fault;
-    index = find(store, machine, sale, &before);
+    index = find(store, machine, sale, before);
     if (index == 0)
         return refuse(16, 0);
-    cell = store + CELL * index;
-    if (!open_sale(key, cell, record))
-        return refuse(9, index);
+    return open_sale(key, store + CELL * index, record) ? index : refuse(9, index);
+}
 
+uint64_t baseline_store_cancel(const uint8_t *key, size_t key_len, uint8_t *store,
+                               size_t store_len, uint32_t machine, uint32_t sale)
+{
+    uint8_t record[RECORD], *cell;
+    uint32_t before = 0;
+    uint64_t index = open_named(key, key_len, store, store_len, machine, sale, &before, record);
+
+    if (index > UINT32_MAX)
+        return index;
+
+    cell = store + CELL * index;
     put16(store + CELL * before + NEXT, get16(cell + NEXT));
     memset(cell, 0, CELL);
     put16(cell + NEXT, get16(store + FIRST_FREE));
-    put16(store + FIRST_FREE, index);
+    put16(store + FIRST_FREE, (uint32_t)index);
     return get32(record + AMOUNT);
+}
+
+uint64_t baseline_store_look_up(const uint8_t *key, size_t key_len, const uint8_t *store,
+                                size_t store_len, uint32_t machine, uint32_t sale,
+                                uint32_t *amount, uint32_t *price)
+{
+    uint8_t record[RECORD], kind;
+    uint32_t before = 0;
+    uint64_t index = open_named(key, key_len, store, store_len, machine, sale, &before, record);
+
+    if (index > UINT32_MAX)
+        return index;
+
+    kind = store[CELL * index + KIND];
+    *amount = get32(record + AMOUNT);
+    if (kind == PRICED)
+        *price = get32(record + PRICE);
+    return kind;
 }
 
 uint64_t baseline_store_total(const uint8_t *key, size_t key_len, const uint8_t *store,

@@ -90,7 +90,6 @@ extern "C" {
 #define CALMBAIZE_STORE_BYTES_MAX 65536U
 #define CALMBAIZE_SALE_BYTES 61U /* the part that calmbaize_store_read() finds */
 #define CALMBAIZE_NONCE_TAIL_BYTES 8U
-#define CALMBAIZE_CLOCK_BYTES 6U
 
 /* The longest run, in words of 64 bits; calmbaize_run_words() tells the length of each. */
 #define CALMBAIZE_RUN_WORDS_MAX 533U
@@ -113,6 +112,7 @@ extern "C" {
 #define CALMBAIZE_STORE_CANCEL_STACK_BYTES 4096U
 #define CALMBAIZE_STORE_TOTAL_STACK_BYTES 4096U
 #define CALMBAIZE_STORE_READ_STACK_BYTES 1024U
+#define CALMBAIZE_STORE_LOOK_UP_STACK_BYTES 4096U
 
 /* Modes. OPP needs a fresh nonce for every message; MRO tolerates a repeated one. */
 #define CALMBAIZE_MODE_OPP 1U
@@ -129,6 +129,10 @@ extern "C" {
 /* Means of payment. Others are carried unread. */
 #define CALMBAIZE_MEANS_COIN 1U
 #define CALMBAIZE_MEANS_CARD 2U
+
+/* Kinds of a sale: with a clock and no price, as versions before 0.8.0 stored them; with price and day. */
+#define CALMBAIZE_KIND_UNPRICED 1U
+#define CALMBAIZE_KIND_PRICED 2U
 
 /*
  * Refusals. No number is used for a second thing: 14 (CALMBAIZE_REFUSED_STORE_FORM),
@@ -414,7 +418,7 @@ uint64_t calmbaize_store_take(const uint8_t *key, size_t key_len,
                               uint32_t machine, uint32_t sale,
                               const uint8_t nonce_tail[CALMBAIZE_NONCE_TAIL_BYTES],
                               uint32_t amount, uint16_t column, uint8_t means,
-                              const uint8_t clock[CALMBAIZE_CLOCK_BYTES]);
+                              uint32_t price, uint16_t day);
 
 /*
  * Opens a sale, takes it out of the chain of sales and puts its cell first among
@@ -459,6 +463,21 @@ uint64_t calmbaize_store_total(const uint8_t *key, size_t key_len,
 CALMBAIZE_NODISCARD
 uint64_t calmbaize_store_read(const uint8_t *store, size_t store_len,
                               uint32_t machine, uint32_t sale);
+
+/*
+ * Opens a sale and tells its amount and its listed price, for a refund.
+ *
+ * Success answers the sale's kind. CALMBAIZE_KIND_PRICED: amount and price are
+ * written. CALMBAIZE_KIND_UNPRICED: the sale has no price; the amount is written,
+ * and the price is unchanged. The store is unchanged.
+ *
+ * Refused as calmbaize_store_cancel() is; then amount and price are unchanged.
+ */
+CALMBAIZE_NODISCARD
+uint64_t calmbaize_store_look_up(const uint8_t *key, size_t key_len,
+                                 const uint8_t *store, size_t store_len,
+                                 uint32_t machine, uint32_t sale,
+                                 uint32_t *amount, uint32_t *price);
 
 #ifdef __cplusplus
 }

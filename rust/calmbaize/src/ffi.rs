@@ -131,8 +131,7 @@ extern "C" {
     pub fn calmbaize_store_format(store: *mut u8, store_len: usize) -> u64;
 
     /// See [`slices::store::take`](crate::slices::store::take). `nonce_tail` has
-    /// [`NONCE_TAIL_LEN`](crate::NONCE_TAIL_LEN) bytes and `clock`
-    /// [`CLOCK_LEN`](crate::CLOCK_LEN).
+    /// [`NONCE_TAIL_LEN`](crate::NONCE_TAIL_LEN) bytes.
     pub fn calmbaize_store_take(
         key: *const u8,
         key_len: usize,
@@ -144,7 +143,8 @@ extern "C" {
         amount: u32,
         column: u16,
         means: u8,
-        clock: *const u8,
+        price: u32,
+        day: u16,
     ) -> u64;
 
     /// See [`slices::store::cancel`](crate::slices::store::cancel).
@@ -170,6 +170,19 @@ extern "C" {
     /// See [`slices::store::read`](crate::slices::store::read).
     pub fn calmbaize_store_read(store: *const u8, store_len: usize, machine: u32, sale: u32)
         -> u64;
+
+    /// See [`slices::store::look_up`](crate::slices::store::look_up). `*price` is written for a sale
+    /// that has one; where refused, `*amount` and `*price` are unchanged.
+    pub fn calmbaize_store_look_up(
+        key: *const u8,
+        key_len: usize,
+        store: *const u8,
+        store_len: usize,
+        machine: u32,
+        sale: u32,
+        amount: *mut u32,
+        price: *mut u32,
+    ) -> u64;
 }
 
 /// Takes an answer apart: the value of a success, such as the bytes written, or the refusal.
