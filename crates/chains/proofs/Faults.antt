@@ -20,31 +20,30 @@ use Rattle.cells.proofs.Counts.{all-first, first-ext, first-or, first-is, in-ye
 use Rattle.chains.proofs.Bits.{bits-none, unreached-none}
 
 -- what a walk promises
-abbrev pub Walks : List ℕ → List ℕ → ℕ → ℕ → ℕ → MarkedWalk → List ℕ → Type 0
-Walks s m i kind k r n = (fits : ℕ → Bool) (reached : List ℕ) → Marks m reached → FirstMisfit fits reached (cells s) k → ((c : ℕ) → count c reached ≡ 0 → fits c ≡ eqb (kindOf s c) kind) → Walked fits (cells s) r n (walkOf s (cells s) reached 0 i)
+abbrev pub Walks : List ℕ → List ℕ → ℕ → Bool → ℕ → MarkedWalk → List ℕ → Type 0
+Walks s m i sold k r n = (fits : ℕ → Bool) (reached : List ℕ) → Marks m reached → FirstMisfit fits reached (cells s) k → ((c : ℕ) → count c reached ≡ 0 → fits c ≡ kindFits sold (kindOf s c)) → Walked fits (cells s) r n (walkOf s (cells s) reached 0 i)
 
 -- the tests of the kinds: of the sales, and of all once the sales are known
 abbrev pub soldFits : List ℕ → ℕ → Bool
-soldFits s c = eqb (kindOf s c) 1
+soldFits s c = kindFits true (kindOf s c)
 
 abbrev pub eachFits : List ℕ → ℕ → Bool
 eachFits s c = kindFits (isIn c (salesWalk s .1)) (kindOf s c)
 
-pub sales-walked : (s m n : List ℕ) (i : ℕ) (r : MarkedWalk) → i ≡ numberAt 2 0 s → Walks s m i 1 (cells s) r n → Marks m [] → Walked (soldFits s) (cells s) r n (salesWalk s)
+pub sales-walked : (s m n : List ℕ) (i : ℕ) (r : MarkedWalk) → i ≡ numberAt 2 0 s → Walks s m i true (cells s) r n → Marks m [] → Walked (soldFits s) (cells s) r n (salesWalk s)
 unfolding salesWalk firstSale count
 sales-walked s m n i r e w h = rw e at (w (soldFits s) [] h (record { most = omega arith; least = λ c a b. absurd (omega arith); found = λ a. absurd (omega arith) }) (λ c a. refl))
 
 -- the sales' test is that of all on the sales
 misfit-all : (s : List ℕ) (n k : ℕ) → FirstMisfit (soldFits s) (salesWalk s .1) n k → FirstMisfit (eachFits s) (salesWalk s .1) n k
-unfolding kindFits
 misfit-all s n k g = record {
   most = g .most;
   least = λ c a b. rw (in-yes c (salesWalk s .1) b) (g .least c a b);
   found = λ a. (g .found a .0, rw (in-yes k (salesWalk s .1) (g .found a .0)) (g .found a .1));
 }
 
-pub free-walked : (s m n : List ℕ) (i : ℕ) (q r : MarkedWalk) → i ≡ numberAt 2 2 s → Walks s m i 0 (q .lowest) r n → Walked (soldFits s) (cells s) q m (salesWalk s) → Walked (eachFits s) (cells s) r n (freeWalk s)
-unfolding freeWalk firstFree kindFits
+pub free-walked : (s m n : List ℕ) (i : ℕ) (q r : MarkedWalk) → i ≡ numberAt 2 2 s → Walks s m i false (q .lowest) r n → Walked (soldFits s) (cells s) q m (salesWalk s) → Walked (eachFits s) (cells s) r n (freeWalk s)
+unfolding freeWalk firstFree
 free-walked s m n i q r e w h = rw e at (w (eachFits s) (salesWalk s .1) (h .marks) (misfit-all s (cells s) (q .lowest) (h .lowest)) (λ c a. rw (in-no c (salesWalk s .1) a)))
 
 pub broken-sales : (s m : List ℕ) (r : MarkedWalk) (c : ℕ) → Walked (soldFits s) (cells s) r m (salesWalk s) → r .stop ≡ Broken c → Index c ≡ formFault s

@@ -1,13 +1,13 @@
 -- A store is sound where both chains end, their kinds fit, and they have as many cells as there are. Assumes nothing.
 use mathlib.Core.Path.{_≡_, refl, sym, ap, subst, _∙_}
-use mathlib.Core.Bool.{cond, true}
+use mathlib.Core.Bool.{Bool, cond, true, false, false≢true}
 use mathlib.Core.List.{List, [], _∷_, _++_}
 use Prim.Native.Nat.{ℕ, _+_, _-_, _≤_, _<_}
 use native.Mathlib.Omega.{arith}
 use native.Mathlib.Decide.{decLt, ℕ-discrete}
 use lib.Dec.{eqb}
 use lib.ListN.{length, length-append}
-use borrow.Author.Tests.{eq-eqb, ne-eqb}
+use borrow.Author.Tests.{eq-eqb, ne-eqb, eqb-true}
 use Rattle.cells.specs.Chains.{count}
 use Rattle.cells.specs.Cells.{cells, firstSale, firstFree, nextOf, kindOf, kindFits, formed}
 use Rattle.cells.proofs.Chains.{Linked, In, count-here, count-there, pigeonhole}
@@ -15,8 +15,8 @@ use Rattle.cells.proofs.Form.{Long, Form, of-form}
 use Rattle.chains.specs.Sound.{Segment, BothUpTo, OneUpTo}
 use Rattle.cells.proofs.Counts.{count-append}
 
-module _ (s : List ℕ) (k : ℕ) where
-  pub segment-more : (i : ℕ) (l : List ℕ) (j : ℕ) → Segment s k i l j → 0 < j → j < cells s → kindOf s j ≡ k → Segment s k i (l ++ (j ∷ [])) (nextOf s j)
+module _ (s : List ℕ) (k : Bool) where
+  pub segment-more : (i : ℕ) (l : List ℕ) (j : ℕ) → Segment s k i l j → 0 < j → j < cells s → kindFits k (kindOf s j) ≡ true → Segment s k i (l ++ (j ∷ [])) (nextOf s j)
   segment-more i [] j e a b d = (e, a, b, d, refl)
   segment-more i (c ∷ l) j e a b d = (e .0, e .1, e .2, e .3, segment-more (nextOf s c) l j (e .4) a b d)
 
@@ -28,7 +28,7 @@ module _ (s : List ℕ) (k : ℕ) where
   segment-linked i [] e = e
   segment-linked i (c ∷ l) e = (e .0, e .1, segment-linked (nextOf s c) l (e .4))
 
-  segment-in : (i : ℕ) (l : List ℕ) (j : ℕ) → Segment s k i l j → (c : ℕ) → In c l → (0 < c) × (c < cells s) × (kindOf s c ≡ k)
+  segment-in : (i : ℕ) (l : List ℕ) (j : ℕ) → Segment s k i l j → (c : ℕ) → In c l → (0 < c) × (c < cells s) × (kindFits k (kindOf s c) ≡ true)
   unfolding count
   segment-in i [] j e c h = absurd (omega arith)
   segment-in i (d ∷ l) j e c h = elim (ℕ-discrete d c) [
@@ -78,33 +78,40 @@ module _ (s : List ℕ) (k : ℕ) where
   ]
 
 -- one step of one chain, and of both
-pub one-more : (s : List ℕ) (k i j n left : ℕ) → OneUpTo s k i j n left → (j ≡ 0 → ⊥) → j < cells s → kindOf s j ≡ k → 1 ≤ left → OneUpTo s k i (nextOf s j) n (left - 1)
+pub one-more : (s : List ℕ) (k : Bool) (i j n left : ℕ) → OneUpTo s k i j n left → (j ≡ 0 → ⊥) → j < cells s → kindFits k (kindOf s j) ≡ true → 1 ≤ left → OneUpTo s k i (nextOf s j) n (left - 1)
 one-more s k i j n left r z a b p =
     record { chain = r .chain ++ (j ∷ []); segment = segment-more s k i (r .chain) j (r .segment) (omega (arith, z)) a b; many = omega (arith, r .many, length-append (r .chain) (j ∷ [])) }
 
-pub both-more : (s : List ℕ) (a b left : ℕ) → BothUpTo s a b left → (a ≡ 0 → ⊥) → (b ≡ 0 → ⊥) → a < cells s → b < cells s → kindOf s a ≡ 1 → kindOf s b ≡ 0 → 2 ≤ left → BothUpTo s (nextOf s a) (nextOf s b) (left - 2)
+pub both-more : (s : List ℕ) (a b left : ℕ) → BothUpTo s a b left → (a ≡ 0 → ⊥) → (b ≡ 0 → ⊥) → a < cells s → b < cells s → kindFits true (kindOf s a) ≡ true → kindFits false (kindOf s b) ≡ true → 2 ≤ left → BothUpTo s (nextOf s a) (nextOf s b) (left - 2)
 both-more s a b left p y z c d e f l = record {
   sales = p .sales ++ (a ∷ []);
   spare = p .spare ++ (b ∷ []);
-  of-sales = segment-more s 1 (firstSale s) (p .sales) a (p .of-sales) (omega (arith, y)) c e;
-  of-spare = segment-more s 0 (firstFree s) (p .spare) b (p .of-spare) (omega (arith, z)) d f;
+  of-sales = segment-more s true (firstSale s) (p .sales) a (p .of-sales) (omega (arith, y)) c e;
+  of-spare = segment-more s false (firstFree s) (p .spare) b (p .of-spare) (omega (arith, z)) d f;
   many = omega (arith, p .many, length-append (p .sales) (a ∷ []), length-append (p .spare) (b ∷ []));
 }
 
-module _ (s cs fs : List ℕ) (long : Long s) (x : Segment s 1 (firstSale s) cs 0) (y : Segment s 0 (firstFree s) fs 0) (many : length cs + length fs + 1 ≡ cells s) where
+-- no kind fits both chains
+fits-apart : (kind : ℕ) → kindFits true kind ≡ true → kindFits false kind ≡ true → ⊥
+unfolding kindFits
+fits-apart kind a b =
+    let z = eqb-true kind 0 b in
+    false≢true (rw (ne-eqb kind 1 (λ e. omega arith), ne-eqb kind 2 (λ e. omega arith)) at a)
+
+module _ (s cs fs : List ℕ) (long : Long s) (x : Segment s true (firstSale s) cs 0) (y : Segment s false (firstFree s) fs 0) (many : length cs + length fs + 1 ≡ cells s) where
   once : (c : ℕ) → count c cs + count c fs ≤ 1
   once c = elim (decLt 0 (count c cs)) [
     | yes p ↦ elim (decLt 0 (count c fs)) [
-      | yes q ↦ absurd (let a = segment-in s 1 _ cs 0 x c p .2 in let b = segment-in s 0 _ fs 0 y c q .2 in omega arith)
-      | no q ↦ omega (arith, segment-once s 1 _ cs x c)
+      | yes q ↦ absurd (fits-apart (kindOf s c) (segment-in s true _ cs 0 x c p .2) (segment-in s false _ fs 0 y c q .2))
+      | no q ↦ omega (arith, segment-once s true _ cs x c)
     ]
-    | no p ↦ omega (arith, segment-once s 0 _ fs y c)
+    | no p ↦ omega (arith, segment-once s false _ fs y c)
   ]
 
   low : (c : ℕ) → 0 < count c cs + count c fs → (0 < c) × (c < cells s)
   low c h = elim (decLt 0 (count c cs)) [
-    | yes p ↦ (segment-in s 1 _ cs 0 x c p .0, segment-in s 1 _ cs 0 x c p .1)
-    | no p ↦ let q : In c fs = omega arith in (segment-in s 0 _ fs 0 y c q .0, segment-in s 0 _ fs 0 y c q .1)
+    | yes p ↦ (segment-in s true _ cs 0 x c p .0, segment-in s true _ cs 0 x c p .1)
+    | no p ↦ let q : In c fs = omega arith in (segment-in s false _ fs 0 y c q .0, segment-in s false _ fs 0 y c q .1)
   ]
 
   none-zero : count 0 cs + count 0 fs ≡ 0
@@ -148,21 +155,20 @@ module _ (s cs fs : List ℕ) (long : Long s) (x : Segment s 1 (firstSale s) cs 
   ]
 
   pub segments-formed : formed s ≡ true
-  unfolding kindFits
   segments-formed = of-form s cs fs (record {
     size = long;
-    sold = segment-linked s 1 _ cs x;
-    spare = segment-linked s 0 _ fs y;
-    sold-here = λ c i. segment-in s 1 _ cs 0 x c i .1;
-    sold-kind = λ c i. eq-eqb (kindOf s c) 1 (segment-in s 1 _ cs 0 x c i .2);
-    free-here = λ c i. segment-in s 0 _ fs 0 y c i .1;
-    free-kind = λ c i. eq-eqb (kindOf s c) 0 (segment-in s 0 _ fs 0 y c i .2);
+    sold = segment-linked s true _ cs x;
+    spare = segment-linked s false _ fs y;
+    sold-here = λ c i. segment-in s true _ cs 0 x c i .1;
+    sold-kind = λ c i. segment-in s true _ cs 0 x c i .2;
+    free-here = λ c i. segment-in s false _ fs 0 y c i .1;
+    free-kind = λ c i. segment-in s false _ fs 0 y c i .2;
     cover = cover;
   })
 
 -- the walks put together
-pub ended-formed : (s : List ℕ) (a b n m l : ℕ) → Long s → BothUpTo s a b n → OneUpTo s 1 a 0 n m → OneUpTo s 0 b 0 m l → l ≡ 0 → formed s ≡ true
+pub ended-formed : (s : List ℕ) (a b n m l : ℕ) → Long s → BothUpTo s a b n → OneUpTo s true a 0 n m → OneUpTo s false b 0 m l → l ≡ 0 → formed s ≡ true
 ended-formed s a b n m l long p q r e =
-    let x = segment-join s 1 (firstSale s) (p .sales) a (q .chain) 0 (p .of-sales) (q .segment) in
-    let y = segment-join s 0 (firstFree s) (p .spare) b (r .chain) 0 (p .of-spare) (r .segment) in
+    let x = segment-join s true (firstSale s) (p .sales) a (q .chain) 0 (p .of-sales) (q .segment) in
+    let y = segment-join s false (firstFree s) (p .spare) b (r .chain) 0 (p .of-spare) (r .segment) in
     segments-formed s (p .sales ++ q .chain) (p .spare ++ r .chain) long x y (omega (arith, p .many, q .many, r .many, length-append (p .sales) (q .chain), length-append (p .spare) (r .chain)))

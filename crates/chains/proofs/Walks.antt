@@ -11,7 +11,7 @@ use Rattle.cells.specs.declared.Stop.{Stop}
 use Rattle.cells.specs.declared.Stop.the-variants.{End, Broken}
 use Rattle.chains.specs.declared.MarkedWalk.{MarkedWalk}
 use Rattle.cells.specs.Chains.{count}
-use Rattle.cells.specs.Cells.{cells, nextOf, kindOf}
+use Rattle.cells.specs.Cells.{cells, nextOf, kindOf, kindFits}
 use Rattle.cells.specs.Faults.{walkOf}
 use Rattle.chains.specs.Marks.{Marks, FirstMisfit, Walked, bitAt, marked}
 use lib.ListN.{length}
@@ -20,19 +20,19 @@ use Rattle.cells.proofs.Walks.{walk-on}
 use Rattle.chains.proofs.Bits.{marks-more}
 
 -- the walk from w's start stands here, with these cells reached and marked, and steps enough for the cells left
-pub record On (fits : ℕ → Bool) (s m : List ℕ) (kind left lowest from at : ℕ) (w : Stop × List ℕ) : Type 0 where
+pub record On (fits : ℕ → Bool) (s m : List ℕ) (sold : Bool) (left lowest from at : ℕ) (w : Stop × List ℕ) : Type 0 where
   pub reached : List ℕ
   pub steps : ℕ
   pub enough : left ≤ steps
   pub marks : Marks m reached
   pub least : FirstMisfit fits reached (cells s) lowest
-  pub fresh : (c : ℕ) → count c reached ≡ 0 → fits c ≡ eqb (kindOf s c) kind
+  pub fresh : (c : ℕ) → count c reached ≡ 0 → fits c ≡ kindFits sold (kindOf s c)
   pub rest : w ≡ walkOf s steps reached from at
 
 -- and stops here
-pub arrived : (fits : ℕ → Bool) (s m : List ℕ) (kind left lowest from at : ℕ) (w : Stop × List ℕ) (r : MarkedWalk) (o : On fits s m kind left lowest from at w)
+pub arrived : (fits : ℕ → Bool) (s m : List ℕ) (sold : Bool) (left lowest from at : ℕ) (w : Stop × List ℕ) (r : MarkedWalk) (o : On fits s m sold left lowest from at w)
     → walkOf s (o .steps) (o .reached) from at ≡ (r .stop, o .reached) → r .lowest ≡ lowest → Walked fits (cells s) r m w
-arrived fits s m kind left lowest from at w r o e k =
+arrived fits s m sold left lowest from at w r o e k =
     let h : w ≡ (r .stop, o .reached) = o .rest ∙ e in
     let l : w .1 ≡ o .reached = ap (λ (x : Stop × List ℕ). x .1) h in
     record { stop = sym (ap (λ (x : Stop × List ℕ). x .0) h); marks = rw l (o .marks); lowest = rw (l, k) (o .least) }
@@ -76,10 +76,10 @@ misfit-more fits reached n k at d g l e = byTest (fits at) refl e where
   ]
 
 -- or goes on
-pub onward : (fits : ℕ → Bool) (s m n : List ℕ) (kind left lowest next from at : ℕ) (w : Stop × List ℕ) → 1 ≤ left → (at ≡ 0 → ⊥) → at < cells s → at < 64 * length m → bitAt m at ≡ 0 → n ≡ marked m at
-    → next ≡ cond (not (eqb (kindOf s at) kind)) (cond (ltb at lowest) at lowest) lowest
-    → On fits s m kind left lowest from at w → On fits s n kind (left - 1) next at (nextOf s at) w
-onward fits s m n kind left lowest next from at w h z l k b e q o =
+pub onward : (fits : ℕ → Bool) (s m n : List ℕ) (sold : Bool) (left lowest next from at : ℕ) (w : Stop × List ℕ) → 1 ≤ left → (at ≡ 0 → ⊥) → at < cells s → at < 64 * length m → bitAt m at ≡ 0 → n ≡ marked m at
+    → next ≡ cond (not (kindFits sold (kindOf s at))) (cond (ltb at lowest) at lowest) lowest
+    → On fits s m sold left lowest from at w → On fits s n sold (left - 1) next at (nextOf s at) w
+onward fits s m n sold left lowest next from at w h z l k b e q o =
     let new : count at (o .reached) ≡ 0 = sym (o .marks .each at) ∙ b in
     let f : o .steps ≡ suc (o .steps - 1) = omega (arith, o .enough) in
     record {

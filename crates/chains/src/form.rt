@@ -1,7 +1,7 @@
 // What is broken in a store: its first fault. A sound store is seen without marks (sound.rt). Else the chains
 // are walked once more, sales first; each cell reached is marked, and the lowest whose kind does not fit is kept.
 use crate::FREE;
-use crate::SALE;
+use crate::SALES;
 use crate::marks::is_marked;
 use crate::sound::is_sound;
 use crate::walk::walk;
@@ -118,7 +118,7 @@ fn form_fault(s: &[u8], marks: &mut [u64]) -> Fault
     ensures { λ r. ⌜ r ≡ formFault (now (s .entry)) ⌝ }
 {
     let cells = s.len() / 64;
-    let sales = walk(s, marks, index_at(s, 0), SALE, cells, cells - 1);
+    let sales = walk(s, marks, index_at(s, 0), SALES, cells, cells - 1);
     let sales_stop = sales.stop;
     match sales_stop {
         Stop::Broken(c) => Fault::Index(c),

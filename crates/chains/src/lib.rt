@@ -7,10 +7,10 @@ mod marks;
 mod sound;
 mod walk;
 
-// The kind of a sale, and of a free cell.
-const SALE: usize = 1;
+// Which chain is walked: that of the sales, or that of the free cells.
+const SALES: bool = true;
 
-const FREE: usize = 0;
+const FREE: bool = false;
 
 // What the walk of a chain with marks leaves.
 pub struct MarkedWalk {

@@ -1,11 +1,12 @@
-// A sound store is seen without marks. A chain that ends has no cell twice; two chains of different kinds have
-// no cell in common; and as many cells as the store has beside cell 0 are all of them. Both chains are walked side
+// A sound store is seen without marks. A chain that ends has no cell twice; the kinds of the one fit
+// in the other nowhere, so they have no cell in common; and as many cells as the store has beside cell 0 are all of them. Both chains are walked side
 // by side, so that a step of the one does not wait for the other.
 use crate::BothWalk;
 use crate::FREE;
 use crate::OneWalk;
-use crate::SALE;
+use crate::SALES;
 use cells::fields::index_at;
+use cells::fields::kind_fits;
 use cells::fields::link_of;
 ghost use mathlib.Core.Path.{_≡_};
 ghost use mathlib.Core.Bool.{true};
@@ -40,10 +41,10 @@ fn walk_both(s: &[u8]) -> BothWalk
         }
         let sale = link_of(s, sold);
         let spare = link_of(s, free);
-        if sale.kind != SALE {
+        if !kind_fits(SALES, sale.kind) {
             break false;
         }
-        if spare.kind != FREE {
+        if !kind_fits(FREE, spare.kind) {
             break false;
         }
         left -= 2;
@@ -59,8 +60,8 @@ fn walk_both(s: &[u8]) -> BothWalk
 }
 
 // One chain, from an index on.
-fn walk_one(s: &[u8], first: usize, kind: usize, most: usize) -> OneWalk
-    ensures { λ r. ⌜ (r .ended ≡ true → OneUpTo (now (s .entry)) kind first 0 most (r .left)) ⌝ }
+fn walk_one(s: &[u8], first: usize, sold: bool, most: usize) -> OneWalk
+    ensures { λ r. ⌜ (r .ended ≡ true → OneUpTo (now (s .entry)) sold first 0 most (r .left)) ⌝ }
 {
     let cells = s.len() / 64;
     let mut left = most;
@@ -76,7 +77,7 @@ fn walk_one(s: &[u8], first: usize, kind: usize, most: usize) -> OneWalk
             break false;
         }
         let link = link_of(s, at);
-        if link.kind != kind {
+        if !kind_fits(sold, link.kind) {
             break false;
         }
         left -= 1;
@@ -97,7 +98,7 @@ pub fn is_sound(s: &[u8]) -> bool
     if !both.going {
         return false;
     }
-    let sold = walk_one(s, both.sold, SALE, both.left);
+    let sold = walk_one(s, both.sold, SALES, both.left);
     if !sold.ended {
         return false;
     }

@@ -3,15 +3,16 @@ use crate::MarkedWalk;
 use crate::marks::is_marked;
 use crate::marks::mark;
 use cells::Stop;
+use cells::fields::kind_fits;
 use cells::fields::link_of;
 ghost use mathlib.Core.Path.{_≡_};
 ghost use mathlib.Core.Bool.{Bool, cond};
 ghost use mathlib.Core.List.{List};
 ghost use Prim.Native.Nat.{ℕ, _*_, _≤_};
-ghost use lib.Dec.{eqb, ltb};
+ghost use lib.Dec.{ltb};
 ghost use lib.ListN.{length};
 ghost use Rattle.cells.specs.Chains.{count};
-ghost use Rattle.cells.specs.Cells.{cells, kindOf};
+ghost use Rattle.cells.specs.Cells.{cells, kindOf, kindFits};
 ghost use Rattle.cells.specs.Faults.{walkOf};
 ghost use Rattle.chains.specs.Marks.{Marks, Unreached, FirstMisfit, Walked};
 
@@ -28,17 +29,17 @@ fn lesser(misfit: bool, at: usize, lowest: usize) -> usize
     lowest
 }
 
-// From an index on until it stops: marks each cell reached, counts it, and keeps the lowest one whose kind is another.
+// From an index on until it stops: marks each cell reached, counts it, and keeps the lowest one whose kind does not fit.
 pub fn walk(
     s: &[u8],
     marks: &mut [u64],
     first: usize,
-    kind: usize,
+    sold: bool,
     misfit: usize,
     unreached: usize,
 ) -> MarkedWalk
     requires { ⌜ (cells (now s) ≤ 64 * length (now marks)) × Unreached (cells (now s)) (now marks) unreached ⌝ }
-    ensures { λ r. ⌜ Unreached (cells (now (s .entry))) (now (marks .exit)) (r .left) × ((fits : ℕ → Bool) (reached : List ℕ) → Marks (now (marks .entry)) reached → FirstMisfit fits reached (cells (now (s .entry))) misfit → ((c : ℕ) → count c reached ≡ 0 → fits c ≡ eqb (kindOf (now (s .entry)) c) kind) → Walked fits (cells (now (s .entry))) r (now (marks .exit)) (walkOf (now (s .entry)) (cells (now (s .entry))) reached 0 first)) ⌝ }
+    ensures { λ r. ⌜ Unreached (cells (now (s .entry))) (now (marks .exit)) (r .left) × ((fits : ℕ → Bool) (reached : List ℕ) → Marks (now (marks .entry)) reached → FirstMisfit fits reached (cells (now (s .entry))) misfit → ((c : ℕ) → count c reached ≡ 0 → fits c ≡ kindFits sold (kindOf (now (s .entry)) c)) → Walked fits (cells (now (s .entry))) r (now (marks .exit)) (walkOf (now (s .entry)) (cells (now (s .entry))) reached 0 first)) ⌝ }
 {
     let cells = s.len() / 64;
     let mut left = unreached;
@@ -58,7 +59,7 @@ pub fn walk(
         mark(marks, at);
         left -= 1;
         let link = link_of(s, at);
-        lowest = lesser(link.kind != kind, at, lowest);
+        lowest = lesser(!kind_fits(sold, link.kind), at, lowest);
         from = at;
         at = link.next;
     };

@@ -13,7 +13,7 @@ ghost use Rattle.cells.specs.Changes.{filled};
 ghost use Rattle.sales.specs.Sale.{bodyFor};
 
 // The kind of a new sale.
-const NEW_KIND: u8 = 1;
+const NEW_KIND: u8 = 2;
 
 // The first free cell c holds the sale, in front of the others.
 pub fn fill(key: &[u8], s: &mut [u8], c: usize, of: Sale)

@@ -15,9 +15,11 @@ use Rattle.mro.specs.Mro.{mroMode}
 use Rattle.mro.proofs.Opened.{mro-lawful}
 use Rattle.mem.specs.Mem.{startOf}
 use Rattle.cells.specs.Numbers.{part, numberAt}
-use Rattle.cells.proofs.Numbers.{lowBytes-bytes, drop-after, number-read, number-lt, part-front}
+use Rattle.cells.specs.Changes.{newKind}
+use Rattle.cells.proofs.Numbers.{lowBytes-bytes, drop-after, number-read, number-alone, number-behind, number-lt, part-front}
 use Rattle.sales.specs.declared.Sale.{Sale}
-use Rattle.sales.specs.Sale.{nonceOf, recordOf, saleMode, bodyFor, opens, recordIn, saleIn, Fits}
+use Rattle.sales.specs.Sale.{nonceOf, recordOf, saleMode, bodyFor, storedAs, opens, recordIn, detailIn, saleIn, Fits}
+use Rattle.sales.specs.Sale.Detail.{listed}
 
 -- the sealing of sales is lawful
 sale-lawful : (key nonce : List ℕ) → Lawful (saleMode key nonce)
@@ -31,14 +33,15 @@ module _ (x : Sale) (h : Fits x) where
 
   pub record-long : length (recordOf x) ≡ 13
   unfolding recordOf
-  record-long = simp (length-append, length-lowBytes) (omega (arith, h .clock-long))
+  record-long = simp (length-append, length-lowBytes) (omega arith)
 
   record-bytes : Bytes (recordOf x)
   unfolding recordOf
   record-bytes =
       bytes-append (lowBytes 4 (x .amount)) _ (lowBytes-bytes 4 (x .amount))
       (bytes-append (lowBytes 2 (x .column)) _ (lowBytes-bytes 2 (x .column))
-      (bytes-append (lowBytes 1 (x .means)) (x .clock) (lowBytes-bytes 1 (x .means)) (h .clock-bytes)))
+      (bytes-append (lowBytes 1 (x .means)) _ (lowBytes-bytes 1 (x .means))
+      (bytes-append (lowBytes 4 (x .price)) _ (lowBytes-bytes 4 (x .price)) (lowBytes-bytes 2 (x .day)))))
 
 module _ (key : List ℕ) (x : Sale) where
   -- the record sealed
@@ -79,37 +82,51 @@ module _ (key : List ℕ) (x : Sale) where
   nonce-part : Fits x → (n at : ℕ) → at + n ≤ 16 → part n at (bodyFor key x) ≡ part n at (nonceOf x)
   nonce-part h n at q = rw body-parts (part-front n at (nonceOf x) sealed (omega (arith, nonce-long x h)))
 
-  pub body-sale : Bytes key → Fits x → saleIn key (bodyFor key x) ≡ x
-  unfolding saleIn numberAt nonceOf recordOf
+  -- the numbers of the record
+  record-amount : Fits x → numberAt 4 0 (recordOf x) ≡ x .amount
+  unfolding recordOf
+  record-amount h = number-read 4 (x .amount) 0 [] _ refl (h .amount-fits)
+
+  record-column : Fits x → numberAt 2 4 (recordOf x) ≡ x .column
+  unfolding recordOf
+  record-column h = number-behind 2 4 0 (x .amount) _ ∙ number-read 2 (x .column) 0 [] _ refl (h .column-fits)
+
+  record-means : Fits x → numberAt 1 6 (recordOf x) ≡ x .means
+  unfolding recordOf
+  record-means h = number-behind 1 4 2 (x .amount) _ ∙ number-behind 1 2 0 (x .column) _ ∙ number-read 1 (x .means) 0 [] _ refl (h .means-fits)
+
+  record-price : Fits x → numberAt 4 7 (recordOf x) ≡ x .price
+  unfolding recordOf
+  record-price h =
+      number-behind 4 4 3 (x .amount) _ ∙ number-behind 4 2 1 (x .column) _ ∙ number-behind 4 1 0 (x .means) _ ∙ number-read 4 (x .price) 0 [] _ refl (h .price-fits)
+
+  record-day : Fits x → numberAt 2 11 (recordOf x) ≡ x .day
+  unfolding recordOf
+  record-day h =
+      number-behind 2 4 7 (x .amount) _ ∙ number-behind 2 2 5 (x .column) _ ∙ number-behind 2 1 4 (x .means) _ ∙ number-behind 2 4 0 (x .price) _
+      ∙ number-alone 2 (x .day) (h .day-fits)
+
+  pub body-sale : Bytes key → Fits x → saleIn key newKind (bodyFor key x) ≡ storedAs x
+  unfolding saleIn detailIn storedAs numberAt nonceOf
   body-sale k h =
       let m = lowBytes 4 (x .machine) in
       let s = lowBytes 4 (x .sale) in
-      let a = lowBytes 4 (x .amount) in
-      let c = lowBytes 2 (x .column) in
-      let w = lowBytes 1 (x .means) in
       λ i. record {
         machine = (ap le (nonce-part h 4 0 (omega arith)) ∙ number-read 4 (x .machine) 0 [] (s ++ x .tail) refl (h .machine-fits)) i;
         sale = (ap le (nonce-part h 4 4 (omega arith)) ∙ number-read 4 (x .sale) 4 m (x .tail) (length-lowBytes 4 (x .machine)) (h .sale-fits)) i;
         tail = (nonce-part h 8 8 (omega arith)
             ∙ ap (take 8) (drop-after 4 4 m (s ++ x .tail) (length-lowBytes 4 (x .machine)) ∙ drop-at s (x .tail) 4 (length-lowBytes 4 (x .sale)))
             ∙ take-all 8 (x .tail) (omega (arith, h .tail-long))) i;
-        amount = (ap (numberAt 4 0) (body-record h) ∙ number-read 4 (x .amount) 0 [] (c ++ (w ++ x .clock)) refl (h .amount-fits)) i;
-        column = (ap (numberAt 2 4) (body-record h) ∙ number-read 2 (x .column) 4 a (w ++ x .clock) (length-lowBytes 4 (x .amount)) (h .column-fits)) i;
-        means = (ap (numberAt 1 6) (body-record h)
-            ∙ ap (λ (l : List ℕ). le (take 1 l)) (drop-after 4 2 a (c ++ (w ++ x .clock)) (length-lowBytes 4 (x .amount)))
-            ∙ number-read 1 (x .means) 2 c (x .clock) (length-lowBytes 2 (x .column)) (h .means-fits)) i;
-        clock = (ap (part 6 7) (body-record h)
-            ∙ ap (take 6)
-            (drop-after 4 3 a (c ++ (w ++ x .clock)) (length-lowBytes 4 (x .amount))
-            ∙ drop-after 2 1 c (w ++ x .clock) (length-lowBytes 2 (x .column))
-            ∙ drop-at w (x .clock) 1 (length-lowBytes 1 (x .means)))
-            ∙ take-all 6 (x .clock) (omega (arith, h .clock-long))) i;
+        amount = (ap (numberAt 4 0) (body-record h) ∙ record-amount h) i;
+        column = (ap (numberAt 2 4) (body-record h) ∙ record-column h) i;
+        means = (ap (numberAt 1 6) (body-record h) ∙ record-means h) i;
+        detail = ap₂ listed (ap (numberAt 4 7) (body-record h) ∙ record-price h) (ap (numberAt 2 11) (body-record h) ∙ record-day h) i;
       }
 
 -- ---- the amount that 61 bytes hold has four bytes
-pub amount-lt : (key body : List ℕ) → Bytes body → saleIn key body .amount < 2 ^ 32
+pub amount-lt : (key : List ℕ) (kind : ℕ) (body : List ℕ) → Bytes body → saleIn key kind body .amount < 2 ^ 32
 unfolding saleIn recordIn numberAt saleMode
-amount-lt key body h =
+amount-lt key kind body h =
     let m = messageOf (mroMode 6 (startOf 6 key (take 16 body))) (drop 16 body) in
     let b = message-bytes (mroMode 6 (startOf 6 key (take 16 body))) (mro-lawful 6 (startOf 6 key (take 16 body))) [] (drop 16 body) (bytes-drop 16 body h) in
     number-lt 4 0 m b

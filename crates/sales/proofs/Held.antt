@@ -16,21 +16,22 @@ use Rattle.sales.specs.Sale.{saleMode, opens, recordIn, saleIn, cashOf, 
 -- ---- what a caller learns where the bytes open
 
 module _ (key body : List ℕ) (h : opens key body ≡ true) where
-  held-record : held key body ≡ recordIn key body
+  pub held-record : held key body ≡ recordIn key body
   unfolding held
   held-record = rw h
 
-  pub held-amount : numberAt 4 0 (held key body) ≡ saleIn key body .amount
-  unfolding saleIn
-  held-amount = ap (numberAt 4 0) held-record
+  module _ (kind : ℕ) where
+    held-amount : numberAt 4 0 (held key body) ≡ saleIn key kind body .amount
+    unfolding saleIn
+    held-amount = ap (numberAt 4 0) held-record
 
-  pub held-means : numberAt 1 6 (held key body) ≡ saleIn key body .means
-  unfolding saleIn
-  held-means = ap (numberAt 1 6) held-record
+    held-means : numberAt 1 6 (held key body) ≡ saleIn key kind body .means
+    unfolding saleIn
+    held-means = ap (numberAt 1 6) held-record
 
-  pub held-cash : cond (eqb (numberAt 1 6 (held key body)) 1) (numberAt 4 0 (held key body)) 0 ≡ cashOf (saleIn key body)
-  unfolding cashOf
-  held-cash = rw (held-amount, held-means)
+    pub held-cash : cond (eqb (numberAt 1 6 (held key body)) 1) (numberAt 4 0 (held key body)) 0 ≡ cashOf (saleIn key kind body)
+    unfolding cashOf
+    held-cash = rw (held-amount, held-means)
 
 -- ---- as opening leaves it
 

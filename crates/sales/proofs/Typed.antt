@@ -18,6 +18,6 @@ fields-fit x vs is = record {
   amount-fits = search needs;
   column-fits = search needs;
   means-fits = search needs;
-  clock-long = search needs;
-  clock-bytes = record { bytes = λ i. let f : Holds w8 (getD (x .clock) i 0) = search needs in f .fits };
+  price-fits = search needs;
+  day-fits = search needs;
 }

@@ -1,10 +1,8 @@
-// The fields of a sale into the bytes of its nonce and of its record, and the amount out of them.
+// The fields of a sale into the bytes of its nonce and of its record.
 use crate::Sale;
 ghost use mathlib.Core.Path.{_≡_};
-ghost use Prim.Native.Nat.{_<_, _≤_};
 ghost use lib.ListN.{length};
 ghost use Rattle.words.specs.Block.{lowBytes};
-ghost use Rattle.cells.specs.Numbers.{numberAt};
 ghost use Rattle.sales.specs.Sale.{nonceOf, recordOf};
 
 // The low bytes of a number, as many as there are places.
@@ -48,24 +46,9 @@ pub fn put_record(of: Sale, out: &mut [u8])
     requires { ⌜ length (now out) ≡ 13 ⌝ }
     ensures { λ _. ⌜ now (out .exit) ≡ recordOf of ⌝ }
 {
-    let clock = of.clock;
     put_low(of.amount as u64, &mut out[0..4]);
     put_low(of.column as u64, &mut out[4..6]);
     put_low(of.means as u64, &mut out[6..7]);
-    put_bytes(&clock, &mut out[7..13]);
-}
-
-// A byte as a number.
-fn wide(x: u8) -> u32
-    ensures { λ r. ⌜ (r ≡ x) × (r < 256) ⌝ }
-{
-    x as u32
-}
-
-// The amount that a record begins with.
-pub fn amount_in(s: &[u8]) -> u32
-    requires { ⌜ 4 ≤ length (now s) ⌝ }
-    ensures { λ r. ⌜ r ≡ numberAt 4 0 (now (s .entry)) ⌝ }
-{
-    wide(s[0]) + 0x100 * wide(s[1]) + 0x1_0000 * wide(s[2]) + 0x100_0000 * wide(s[3])
+    put_low(of.price as u64, &mut out[7..11]);
+    put_low(of.day as u64, &mut out[11..13]);
 }

@@ -1,5 +1,5 @@
 -- The calls by what their checks find, one check after the other. Assumes nothing.
-use mathlib.Core.Path.{_≡_, sym, ap, _∙_}
+use mathlib.Core.Path.{_≡_, refl, sym, ap, _∙_}
 use mathlib.Core.Bool.{true, false, not}
 use mathlib.Core.List.{List, []}
 use Prim.Native.Nat.{ℕ}
@@ -14,14 +14,19 @@ use Rattle.answers.specs.declared.Check.the-variants.{Clear, Fails}
 use Rattle.answers.specs.declared.Answer.{Answer}
 use Rattle.answers.specs.declared.Answer.the-variants.{Done, Refused}
 use Rattle.answers.proofs.Values.{after, line-after, line-clear, stopped, passed-on, judged-done, judged-refused}
-use Rattle.cells.specs.Cells.{firstFree, bodyOf, formed, present, cellNamed, cellBefore}
+use Rattle.cells.specs.Numbers.{numberAt}
+use Rattle.cells.specs.Cells.{firstFree, kindOf, bodyOf, formed, present, cellNamed, cellBefore}
 use Rattle.cells.specs.Faults.{faultOf}
 use Rattle.cells.specs.Changes.{filled, emptied}
 use Rattle.cells.proofs.FirstFault.{check-formed, check-after}
 use Rattle.sales.specs.declared.Sale.{Sale}
-use Rattle.sales.specs.Sale.{bodyFor}
+use Rattle.sales.specs.Sale.{bodyFor, recordIn, detailIn, saleIn}
 use Rattle.entries.specs.Entries.{opensAt, shutAt, saleAt}
-use Rattle.store.specs.Store.{formChecks, keyChecks, takeChecks, cancelChecks, readChecks, takeCall, cancelCall, partWhere, readPart}
+use Rattle.store.specs.declared.LookUp.the-variants.{Priced, Unpriced, Refused as NoLookUp}
+use Rattle.store.specs.declared.Named.{Named}
+use Rattle.store.specs.declared.Named.the-variants.{Open, Refused as NotFound}
+use Rattle.store.specs.Store.{formChecks, keyChecks, takeChecks, cancelChecks, readChecks, takeCall, cancelCall, partWhere, readPart, withPrice, amountAndPrice, lookUpWhere, lookUpCall}
+use Rattle.store.specs.Named.{namedWhere, namedOf}
 
 -- ---- the checks that stand in front
 
@@ -43,6 +48,10 @@ pub key-after : (key s : List ℕ) (next : Check) → keyChecks key s next ≡ a
 unfolding keyChecks
 key-after key s next =
     ap (line (not (eqb (length key) 32)) KeyLength) (form-after s next) ∙ line-after (not (eqb (length key) 32)) KeyLength (formChecks s Clear) next
+
+pub key-all : (key s : List ℕ) (next : Check) → keyChecks key s next ≡ Clear → (formed s ≡ true) × (next ≡ Clear)
+unfolding keyChecks formChecks
+key-all key s next e = check-formed s next (line-clear (not (eqb (length key) 32)) KeyLength _ e .1)
 
 -- ---- a call by its checks
 
@@ -84,7 +93,40 @@ module _ (key : List ℕ) (x : Sale) (s : List ℕ) where
     take-done c t p h z w =
         rw (h, w) (by-clear s (Done (firstFree s), filled (bodyFor key x) s) (on ∙ rw (p, ne-eqb (firstFree s) 0 (λ e. z (h ∙ e)))))
 
+-- ---- a sale named and opened
+
+-- a result as the checks that it comes from
+abbrev checkIn : Named → Check
+checkIn (Open before c amount price) = Clear
+checkIn (NotFound ground place) = Fails ground place
+
+-- its four numbers
+abbrev beforeIn : Named → ℕ
+beforeIn (Open before c amount price) = before
+beforeIn (NotFound ground place) = 0
+
+abbrev cellIn : Named → ℕ
+cellIn (Open before c amount price) = c
+cellIn (NotFound ground place) = 0
+
+abbrev amountIn : Named → ℕ
+amountIn (Open before c amount price) = amount
+amountIn (NotFound ground place) = 0
+
+abbrev priceIn : Named → ℕ
+priceIn (Open before c amount price) = price
+priceIn (NotFound ground place) = 0
+
+check-back : (c : Check) (b n a p : ℕ) → checkIn (namedWhere c (Open b n a p)) ≡ c
+unfolding namedWhere
+check-back Clear b n a p = refl
+check-back (Fails g at) b n a p = refl
+
 module _ (key : List ℕ) (machine sale : ℕ) (s : List ℕ) where
+  -- the record of the sale named
+  recordHere : List ℕ
+  recordHere = recordIn key (bodyOf s (cellNamed machine sale s))
+
   last : Check
   last =
       let c = cellNamed machine sale s in
@@ -94,27 +136,93 @@ module _ (key : List ℕ) (machine sale : ℕ) (s : List ℕ) where
   unfolding cancelChecks last
   parted = key-after key s last
 
-  pub cancel-stopped : {f : Check} (g : Ground) (at : ℕ) → f ≡ keyChecks key s Clear → f ≡ Fails g at → (Refused g at, s) ≡ cancelCall key machine sale s
-  unfolding cancelCall
-  cancel-stopped g at e q = by-fails g at s _ (stopped (keyChecks key s Clear) last parted (sym e ∙ q))
+  fails-named : {g : Ground} {at : ℕ} → cancelChecks key machine sale s ≡ Fails g at → NotFound g at ≡ namedOf key machine sale s
+  unfolding namedOf namedWhere
+  fails-named e = rw e
+
+  pub named-stopped : {f : Check} (g : Ground) (at : ℕ) → f ≡ keyChecks key s Clear → f ≡ Fails g at → NotFound g at ≡ namedOf key machine sale s
+  named-stopped g at e q = fails-named (stopped (keyChecks key s Clear) last parted (sym e ∙ q))
 
   module _ {f : Check} (e : f ≡ keyChecks key s Clear) (q : f ≡ Clear) where
     behind : cancelChecks key machine sale s ≡ last
     behind = passed-on (keyChecks key s Clear) last parted (sym e ∙ q)
 
-    pub cancel-absent : present machine sale s ≡ false → (Refused SaleNumbers 0, s) ≡ cancelCall key machine sale s
-    unfolding cancelCall last line lineAt
-    cancel-absent p = by-fails SaleNumbers 0 s _ (behind ∙ rw p)
+    pub named-absent : present machine sale s ≡ false → NotFound SaleNumbers 0 ≡ namedOf key machine sale s
+    unfolding last line lineAt
+    named-absent p = fails-named (behind ∙ rw p)
 
     module _ (c : ℕ) (p : present machine sale s ≡ true) (h : c ≡ cellNamed machine sale s) where
-      pub cancel-shut : opensAt key s c ≡ false → (Refused TagDiffers c, s) ≡ cancelCall key machine sale s
-      unfolding cancelCall last line lineAt shutAt
-      cancel-shut o = by-fails TagDiffers c s _ (behind ∙ rw (p, ← h, o))
+      pub named-shut : opensAt key s c ≡ false → NotFound TagDiffers c ≡ namedOf key machine sale s
+      unfolding last line lineAt shutAt
+      named-shut o = fails-named (behind ∙ rw (p, ← h, o))
 
-      pub cancel-done : (amount : ℕ) (t : List ℕ) → opensAt key s c ≡ true → amount ≡ saleAt key s c .amount → t ≡ emptied (cellBefore machine sale s) c s
-          → (Done amount, t) ≡ cancelCall key machine sale s
-      unfolding cancelCall last line lineAt shutAt
-      cancel-done amount t o a w = rw (a, w, h) (by-clear s _ (behind ∙ rw (p, ← h, o)))
+      pub named-open : (before amount price : ℕ) → opensAt key s c ≡ true → before ≡ cellBefore machine sale s → amount ≡ numberAt 4 0 (recordIn key (bodyOf s c))
+          → price ≡ numberAt 4 7 (recordIn key (bodyOf s c)) → Open before c amount price ≡ namedOf key machine sale s
+      unfolding namedOf namedWhere last line lineAt shutAt
+      named-open before amount price o b a w =
+          let clear : cancelChecks key machine sale s ≡ Clear = behind ∙ rw (p, ← h, o) in
+          rw (clear, b, a, w, h)
+
+  module _ {n : Named} (e : n ≡ namedOf key machine sale s) where
+    checks-are : checkIn n ≡ cancelChecks key machine sale s
+    unfolding namedOf
+    checks-are = ap checkIn e ∙ check-back (cancelChecks key machine sale s) _ _ _ _
+
+    pub named-fails : {g : Ground} {at : ℕ} → n ≡ NotFound g at → cancelChecks key machine sale s ≡ Fails g at
+    named-fails q = sym checks-are ∙ ap checkIn q
+
+    module _ {b c a p : ℕ} (q : n ≡ Open b c a p) where
+      pub named-clear : cancelChecks key machine sale s ≡ Clear
+      named-clear = sym checks-are ∙ ap checkIn q
+
+      is-open : Open b c a p ≡ Open (cellBefore machine sale s) (cellNamed machine sale s) (numberAt 4 0 recordHere) (numberAt 4 7 recordHere)
+      unfolding namedOf namedWhere recordHere
+      is-open = sym q ∙ e ∙ rw named-clear
+
+      pub named-before : b ≡ cellBefore machine sale s
+      named-before = ap beforeIn is-open
+
+      pub named-cell : c ≡ cellNamed machine sale s
+      named-cell = ap cellIn is-open
+
+      -- the amount, whatever the kind
+      pub named-amount : a ≡ saleAt key s (cellNamed machine sale s) .amount
+      unfolding saleAt saleIn recordHere
+      named-amount = ap amountIn is-open
+
+      -- both cells are the store's
+      pub named-formed : (formed s ≡ true) × (present machine sale s ≡ true)
+      unfolding cancelChecks
+      named-formed =
+          let h = key-all key s _ named-clear in
+          (h .0, not-false _ (line-clear (not (present machine sale s)) SaleNumbers _ (h .1) .0))
+
+      -- ---- what cancel and look-up make of it
+
+      pub cancel-done : (t : List ℕ) → t ≡ emptied b c s → (Done a, t) ≡ cancelCall key machine sale s
+      unfolding cancelCall
+      cancel-done t w = rw (named-amount, w, named-before, named-cell) (by-clear s _ named-clear)
+
+      looked : withPrice a (detailIn (kindOf s c) recordHere) ≡ lookUpCall key machine sale s
+      unfolding lookUpCall lookUpWhere amountAndPrice saleAt saleIn recordHere
+      looked = rw (named-clear, named-cell, ap amountIn is-open)
+
+      pub looked-priced : kindOf s c ≡ 2 → Priced a p ≡ lookUpCall key machine sale s
+      unfolding withPrice detailIn
+      looked-priced k = rw (ap priceIn is-open) ((rw (eq-eqb (kindOf s c) 2 k) at looked))
+
+      pub looked-unpriced : (kindOf s c ≡ 2 → ⊥) → Unpriced a ≡ lookUpCall key machine sale s
+      unfolding withPrice detailIn
+      looked-unpriced k = rw (ne-eqb (kindOf s c) 2 k) at looked
+
+    module _ {g : Ground} {at : ℕ} (q : n ≡ NotFound g at) where
+      pub cancel-refused : (Refused g at, s) ≡ cancelCall key machine sale s
+      unfolding cancelCall
+      cancel-refused = by-fails g at s _ (named-fails q)
+
+      pub looked-refused : NoLookUp g at ≡ lookUpCall key machine sale s
+      unfolding lookUpCall lookUpWhere
+      looked-refused = rw (named-fails q)
 
 -- ---- calls that write nothing
 

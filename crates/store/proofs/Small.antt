@@ -12,7 +12,7 @@ use Rattle.words.proofs.Blocks.{bytes-take, bytes-drop}
 use Rattle.answers.specs.Answers.{valueOf, line}
 use Rattle.answers.specs.declared.Ground.the-variants.{KeyLength, TagDiffers, StoreFull, SaleNumbers}
 use Rattle.answers.specs.declared.Check.{Check}
-use Rattle.answers.specs.declared.Check.the-variants.{Clear}
+use Rattle.answers.specs.declared.Check.the-variants.{Clear, Fails}
 use Rattle.answers.proofs.Values.{placeOf, line-clear, lineAt-lt, checked-lt, judged-lt}
 use Rattle.cells.specs.Chains.{some, first}
 use Rattle.cells.specs.Cells.{cells, firstFree, bodyOf, sales, formed, present, cellNamed}
@@ -20,10 +20,13 @@ use Rattle.cells.proofs.Chains.{first-in}
 use Rattle.cells.proofs.Form.{form-of}
 use Rattle.cells.proofs.FirstFault.{check-formed, check-place, length-place}
 use Rattle.sales.specs.declared.Sale.{Sale}
+use Rattle.sales.specs.Sale.{Detail}
+use Rattle.sales.specs.Sale.Detail.{clock, listed}
 use Rattle.sales.proofs.Bodies.{amount-lt}
 use Rattle.entries.specs.Entries.{shutAt, saleAt}
-use Rattle.store.specs.Store.{formChecks, keyChecks, formatChecks, takeChecks, cancelChecks, totalChecks, readChecks, formatCall, takeCall, cancelCall, readOffset}
+use Rattle.store.specs.Store.{formChecks, keyChecks, formatChecks, takeChecks, cancelChecks, totalChecks, readChecks, formatCall, takeCall, cancelCall, readOffset, withPrice, amountAndPrice, lookUpWhere, lookUpCall, kindTold}
 use Rattle.store.proofs.Sought.{cell-inside, free-inside}
+use Rattle.store.proofs.Calls.{key-all}
 
 -- a cell of a store of right form
 cell-low : (s : List ℕ) (c : ℕ) → formed s ≡ true → c < cells s → 64 * c + 64 < 2 ^ 32
@@ -43,10 +46,6 @@ form-all : (s : List ℕ) (next : Check) → formChecks s next ≡ Clear → (fo
 unfolding formChecks
 form-all s next e = check-formed s next e
 
-key-all : (key s : List ℕ) (next : Check) → keyChecks key s next ≡ Clear → (formed s ≡ true) × (next ≡ Clear)
-unfolding keyChecks
-key-all key s next e = form-all s next (line-clear (not (eqb (length key) 32)) KeyLength _ e .1)
-
 pub format-small : (s : List ℕ) → valueOf (formatCall s .0) < 2 ^ 32
 unfolding formatCall formatChecks
 format-small s = checked-lt (2 ^ 32) (formatChecks s) s _ (rw (length-place s) (lit< tt)) (λ e. lit< tt)
@@ -62,14 +61,30 @@ take-small key x s =
     let free = line-clear (eqb (firstFree s) 0) StoreFull Clear (line-clear (present (x .machine) (x .sale) s) SaleNumbers _ (a .1) .1) .0 in
     omega (arith, cell-low s (firstFree s) (a .0) (free-inside s (a .0) (eqb-false (firstFree s) 0 free))))
 
+cancel-place : (key : List ℕ) (machine sale : ℕ) (s : List ℕ) → placeOf (cancelChecks key machine sale s) < 2 ^ 32
+unfolding cancelChecks
+cancel-place key machine sale s =
+    let c = cellNamed machine sale s in
+    key-place key s _ (λ f. unfold line in lineAt-lt (2 ^ 32) (not (present machine sale s)) SaleNumbers 0 _ (λ t. lit< tt)
+    (λ p. lineAt-lt (2 ^ 32) (shutAt key s c) TagDiffers c Clear (λ t. omega (arith, cell-low s c f (cell-inside machine sale s f (not-false _ p)))) (λ t. lit< tt)))
+
 pub cancel-small : (key : List ℕ) (machine sale : ℕ) (s : List ℕ) → Bytes s → valueOf (cancelCall key machine sale s .0) < 2 ^ 32
-unfolding cancelCall cancelChecks
+unfolding cancelCall
 cancel-small key machine sale s h =
     let c = cellNamed machine sale s in
-    checked-lt (2 ^ 32) (cancelChecks key machine sale s) s _
-    (key-place key s _ (λ f. unfold line in lineAt-lt (2 ^ 32) (not (present machine sale s)) SaleNumbers 0 _ (λ t. lit< tt)
-    (λ p. lineAt-lt (2 ^ 32) (shutAt key s c) TagDiffers c Clear (λ t. omega (arith, cell-low s c f (cell-inside machine sale s f (not-false _ p)))) (λ t. lit< tt))))
-    (λ e. unfold saleAt bodyOf in amount-lt key _ (bytes-take 61 _ (bytes-drop (64 * c + 3) s h)))
+    checked-lt (2 ^ 32) (cancelChecks key machine sale s) s _ (cancel-place key machine sale s)
+    (λ e. unfold saleAt bodyOf in amount-lt key _ _ (bytes-take 61 _ (bytes-drop (64 * c + 3) s h)))
+
+-- a look-up answers 2, 1 or a place
+looked-lt : (c : Check) (amount : ℕ) (d : Detail) → placeOf c < 2 ^ 32 → valueOf (kindTold (lookUpWhere c (withPrice amount d))) < 2 ^ 32
+unfolding kindTold lookUpWhere withPrice
+looked-lt Clear amount (listed price day) h = lit< tt
+looked-lt Clear amount (clock bytes) h = lit< tt
+looked-lt (Fails g at) amount d h = h
+
+pub look-up-small : (key : List ℕ) (machine sale : ℕ) (s : List ℕ) → valueOf (kindTold (lookUpCall key machine sale s)) < 2 ^ 32
+unfolding lookUpCall amountAndPrice
+look-up-small key machine sale s = looked-lt (cancelChecks key machine sale s) _ _ (cancel-place key machine sale s)
 
 -- total's value may be larger; its place is not
 pub total-place : (key s : List ℕ) → placeOf (totalChecks key s) < 2 ^ 32

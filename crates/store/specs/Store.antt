@@ -1,23 +1,26 @@
--- The store's calls: format, take, cancel, total and read (document 02, cards 1 and 7). Assumes nothing.
+-- The store's calls: format, take, cancel, total, read and look-up (document 02, cards 1, 7 and 8). Assumes nothing.
 use mathlib.Core.Bool.{not}
 use mathlib.Core.List.{List, []}
 use Prim.Native.Nat.{ℕ, _+_, _*_}
 use lib.Dec.{eqb}
 use lib.ListN.{length}
-use Rattle.answers.specs.Answers.{line, lineAt, checked, judged}
+use Rattle.answers.specs.Answers.{codeOf, line, lineAt, checked, judged}
 use Rattle.answers.specs.declared.Ground.the-variants.{KeyLength, TagDiffers, StoreFull, SaleNumbers}
 use Rattle.answers.specs.declared.Check.{Check}
 use Rattle.answers.specs.declared.Check.the-variants.{Clear, Fails}
 use Rattle.answers.specs.declared.Answer.{Answer}
-use Rattle.answers.specs.declared.Answer.the-variants.{Done}
+use Rattle.answers.specs.declared.Answer.the-variants.{Done, Refused}
 use Rattle.cells.specs.Chains.{some, first}
 use Rattle.cells.specs.Cells.{cells, firstFree, bodyOf, sales, present, cellNamed, cellBefore}
 use Rattle.cells.specs.declared.Fault.the-variants.{Sound}
 use Rattle.cells.specs.Faults.{lengthOr, faultOf, faultCheck}
 use Rattle.cells.specs.Changes.{fresh, filled, emptied}
 use Rattle.sales.specs.declared.Sale.{Sale}
-use Rattle.sales.specs.Sale.{bodyFor}
+use Rattle.sales.specs.Sale.{bodyFor, Detail, StoredSale}
+use Rattle.sales.specs.Sale.Detail.{clock, listed}
 use Rattle.entries.specs.Entries.{shutAt, saleAt, salesIn, cash}
+use Rattle.store.specs.declared.LookUp.{LookUp}
+use Rattle.store.specs.declared.LookUp.the-variants.{Priced, Unpriced, Refused as NotFound}
 
 -- ---- checks
 
@@ -37,7 +40,7 @@ formatChecks s = faultCheck (lengthOr s Sound) Clear
 unfoldable pub takeChecks : List ℕ → Sale → List ℕ → Check
 takeChecks key x s = keyChecks key s (line (present (x .machine) (x .sale) s) SaleNumbers (line (eqb (firstFree s) 0) StoreFull Clear))
 
--- cancel: 16 where machine and sale number are absent, then 9 with its cell where the sale won't open
+-- cancel and look-up: 16 where machine and sale number are absent, then 9 with its cell where the sale won't open
 unfoldable pub cancelChecks : List ℕ → ℕ → ℕ → List ℕ → Check
 cancelChecks key machine sale s =
     let c = cellNamed machine sale s in
@@ -61,7 +64,7 @@ formatCall s = checked (formatChecks s) s (Done 0, fresh (cells s))
 unfoldable pub takeCall : List ℕ → Sale → List ℕ → Answer × List ℕ
 takeCall key x s = checked (takeChecks key x s) s (Done (firstFree s), filled (bodyFor key x) s)
 
--- cancel: gives back the amount that was deducted; the cell is zeroed behind its next index and first among the free
+-- cancel: gives back the amount that was deducted, of a sale of either kind, "never the price"; the cell is zeroed behind its next index and first among the free
 unfoldable pub cancelCall : List ℕ → ℕ → ℕ → List ℕ → Answer × List ℕ
 cancelCall key machine sale s =
     let c = cellNamed machine sale s in
@@ -87,3 +90,45 @@ readRefusal machine sale s = judged (readChecks machine sale s) (Done 0)
 -- for C, which gets no part: the offset in the store at which that part begins, byte 3 of the sale's cell
 unfoldable pub readOffset : ℕ → ℕ → List ℕ → Answer
 readOffset machine sale s = judged (readChecks machine sale s) (Done (64 * cellNamed machine sale s + 3))
+
+-- ---- look-up: only its answer, since the store is only read
+
+-- amount and listed price; of a sale with a clock, "the amount and a mark for no price": a case of its own, so that no price is like it
+unfoldable pub withPrice : ℕ → Detail → LookUp
+withPrice amount (listed price day) = Priced amount price
+withPrice amount (clock bytes) = Unpriced amount
+
+-- what a sale tells
+unfoldable pub amountAndPrice : StoredSale → LookUp
+amountAndPrice x = withPrice (x .amount) (x .detail)
+
+-- that where the checks are clear; else what they find
+unfoldable pub lookUpWhere : Check → LookUp → LookUp
+lookUpWhere Clear result = result
+lookUpWhere (Fails ground place) result = NotFound ground place
+
+-- "A look-up, checked as cancel and changing nothing, gives both"
+unfoldable pub lookUpCall : List ℕ → ℕ → ℕ → List ℕ → LookUp
+lookUpCall key machine sale s = lookUpWhere (cancelChecks key machine sale s) (amountAndPrice (saleAt key s (cellNamed machine sale s)))
+
+-- each case's number: the sale's kind, 2 with a price and 1 without; or the refusal's number and place
+unfoldable pub kindTold : LookUp → Answer
+kindTold (Priced amount price) = Done 2
+kindTold (Unpriced amount) = Done 1
+kindTold (NotFound ground place) = Refused ground place
+
+-- what C's variable for the amount holds afterwards, by what it held before
+unfoldable pub amountTold : LookUp → ℕ → ℕ
+amountTold (Priced amount price) before = amount
+amountTold (Unpriced amount) before = amount
+amountTold (NotFound ground place) before = before
+
+-- and that for the price: unchanged where there is none
+unfoldable pub priceTold : LookUp → ℕ → ℕ
+priceTold (Priced amount price) before = price
+priceTold (Unpriced amount) before = before
+priceTold (NotFound ground place) before = before
+
+-- for C: the one number, and the two variables
+unfoldable pub lookedUp : LookUp → ℕ → ℕ → ℕ × (ℕ × ℕ)
+lookedUp r amount price = (codeOf (kindTold r), (amountTold r amount, priceTold r price))

@@ -4,6 +4,7 @@ use answers::Check;
 use answers::Ground;
 use cells::fields::body_of;
 use cells::fields::index_at;
+use cells::fields::link_of;
 use cells::writing::empty;
 use chains::Found;
 use chains::find::find;
@@ -18,7 +19,27 @@ ghost use Rattle.answers.specs.Answers.{judged};
 ghost use Rattle.answers.specs.declared.Answer.the-variants.{Done};
 ghost use Rattle.answers.specs.declared.Check.the-variants.{Clear};
 ghost use Rattle.cells.specs.Cells.{cellNamed};
-ghost use Rattle.store.specs.Store.{keyChecks, readChecks, formatCall, takeCall, cancelCall, totalCall, readOffset, readPart, readRefusal};
+ghost use Rattle.store.specs.Store.{keyChecks, readChecks, formatCall, takeCall, cancelCall, totalCall, readOffset, readPart, readRefusal, lookUpCall};
+ghost use Rattle.store.specs.Named.{namedOf};
+
+// What a look-up answers.
+pub enum LookUp {
+    // The amount and the listed price.
+    Priced(u32, u32),
+    // The amount of a sale that has no price.
+    Unpriced(u32),
+    Refused(Ground, u64),
+}
+
+// A sale that was named, for cancel and look-up.
+pub enum Named {
+    // It opens: the cell before it in the chain, its own, the amount, and what stands where kind 2 has the price.
+    Open(usize, usize, u32, u32),
+    Refused(Ground, u64),
+}
+
+// The kind of a sale that has a price.
+const PRICED: usize = 2;
 
 // The checks of a key and of the store's form.
 fn check_key(key: &[u8], store: &[u8]) -> Check
@@ -61,25 +82,55 @@ pub fn take(key: &[u8], store: &mut [u8], of: Sale) -> Answer
     Answer::Done(c as u64)
 }
 
+// The sale with these numbers, which must open.
+fn open_named(key: &[u8], store: &[u8], machine: u32, sale: u32) -> Named
+    ensures { λ r. ⌜ r ≡ namedOf (now (key .entry)) machine sale (now (store .entry)) ⌝ }
+{
+    let found = check_key(key, store);
+    if let Check::Fails(ground, place) = found {
+        return Named::Refused(ground, place);
+    }
+    let there = find(store, machine, sale);
+    match there {
+        Found::Nowhere => Named::Refused(Ground::SaleNumbers, 0),
+        Found::At(before, c) => {
+            let opened = open_sale(key, body_of(store, c));
+            if !opened.opens {
+                return Named::Refused(Ground::TagDiffers, c as u64);
+            }
+            Named::Open(before, c, opened.amount, opened.price)
+        }
+    }
+}
+
 // Takes a sale out of the store; answers the amount that was deducted.
 pub fn cancel(key: &[u8], store: &mut [u8], machine: u32, sale: u32) -> Answer
     ensures { λ r. ⌜ (r, now (store .exit)) ≡ cancelCall (now (key .entry)) machine sale (now (store .entry)) ⌝ }
 {
-    let found = check_key(key, store);
-    if let Check::Fails(ground, place) = found {
-        return Answer::Refused(ground, place);
-    }
-    let there = find(store, machine, sale);
-    match there {
-        Found::Nowhere => Answer::Refused(Ground::SaleNumbers, 0),
-        Found::At(before, c) => {
-            let opened = open_sale(key, body_of(store, c));
-            if !opened.opens {
-                return Answer::Refused(Ground::TagDiffers, c as u64);
-            }
+    let named = open_named(key, store, machine, sale);
+    match named {
+        Named::Refused(ground, place) => Answer::Refused(ground, place),
+        Named::Open(before, c, amount, _) => {
             empty(store, before, c);
-            let amount = opened.amount as u64;
-            Answer::Done(amount)
+            let back = amount as u64;
+            Answer::Done(back)
+        }
+    }
+}
+
+// The amount and the listed price of a sale; the amount alone where it has no price.
+pub fn look_up(key: &[u8], store: &[u8], machine: u32, sale: u32) -> LookUp
+    ensures { λ r. ⌜ r ≡ lookUpCall (now (key .entry)) machine sale (now (store .entry)) ⌝ }
+{
+    let named = open_named(key, store, machine, sale);
+    match named {
+        Named::Refused(ground, place) => LookUp::Refused(ground, place),
+        Named::Open(_, c, amount, price) => {
+            let link = link_of(store, c);
+            if link.kind == PRICED {
+                return LookUp::Priced(amount, price);
+            }
+            LookUp::Unpriced(amount)
         }
     }
 }

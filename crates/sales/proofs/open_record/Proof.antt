@@ -1,4 +1,4 @@
--- The parcel behind the nonce is opened, and amount and means are read from what that leaves. Assumes nothing.
+-- The parcel behind the nonce is opened, and amount, means and price are read from what that leaves. Assumes nothing.
 use mathlib.Core.Path.{ap, _∙_, sym}
 use denote.Ref.{now}
 use Rattle.cells.specs.Numbers.{numberAt}
@@ -41,23 +41,31 @@ part-open-end-2 c = search needs
 open-requires : tie.Need-open-requires
 open-requires c κs = search needs
 
-amount-in-requires : tie.Need-amount-in-requires
-amount-in-requires c κs = search needs
+number-at-requires : tie.Need-number-at-requires
+number-at-requires c κs = search needs
 
 slice-read-means : tie.Need-slice-read-means
 slice-read-means c = search needs
+
+number-at-requires-2 : tie.Need-number-at-requires-2
+number-at-requires-2 c κs = search needs
 
 same-length : tie.Need-same-length
 same-length c = search needs
 
 returns : tie.Need-returns
 returns c =
-    let begin = c .before .before .before .before .before .before .before .before .before .before .before .before .before .before in
+    let begin = c .before .before .before .before .before .before .before .before .before .before .before .before .before .before .before .before in
     let a = begin .args in
-    let start = c .before .before .before .before .before .before .before .before .before .start .ensures in
-    let left = c .before .before .before .before .before .«open» .ensures in
+    let start = c .before .before .before .before .before .before .before .before .before .before .before .start .ensures in
+    let left = c .before .before .before .before .before .before .before .«open» .ensures in
     let told = held-opened (now (a .key)) (now (a .body)) (now (a .out)) (begin .pre .1 .0) (begin .pre .1 .1) _ _ _ start left in
-    (told .0, (c .before .amount-in .ensures ∙ ap (numberAt 4 0) (told .1), sym (one-byte _ 6 (search needs)) ∙ ap (numberAt 1 6) (told .1)))
+    record {
+      right = told .0;
+      amount-is = c .before .before .before .number-at .ensures ∙ ap (numberAt 4 0) (told .1);
+      means-is = sym (one-byte _ 6 (search needs)) ∙ ap (numberAt 1 6) (told .1);
+      price-is = c .number-at2 .ensures ∙ ap (numberAt 4 7) (told .1);
+    }
 
 pub open-record-spec : {M : Type 1} → statement M
 open-record-spec =
@@ -74,7 +82,8 @@ open-record-spec =
     part-open-start-2
     part-open-end-2
     open-requires
-    amount-in-requires
+    number-at-requires
     slice-read-means
+    number-at-requires-2
     same-length
     returns)

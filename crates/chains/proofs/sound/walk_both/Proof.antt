@@ -2,6 +2,7 @@ use mathlib.Core.Path.{sym, _∙_}
 use mathlib.Core.Bool.{false≢true}
 use mathlib.Core.List.{[]}
 use native.Mathlib.Omega.{arith}
+use borrow.Author.Tests.{not-false}
 use Rattle.cells.specs.Cells.{cells, firstSale, firstFree}
 use Rattle.chains.specs.Sound.{BothUpTo}
 use Rattle.chains.proofs.Sounds.{both-more}
@@ -10,6 +11,7 @@ use Rattle.chains.proofs.sound.walk_both.Statement.{statement}
 use Rattle.chains.proofs.sound.walk_both.Tie as tie
 use Rattle.chains.proofs.sound.walk_both.Reads as reads
 use Rattle.chains.proofs.sound.walk_both.Lts as lts
+use Rattle.cells.proofs.fields.kind_fits.Reads as kind-fits-reads
 use Rattle.cells.proofs.fields.link_of.Reads as link-of-reads
 use Rattle.cells.proofs.fields.index_at.Reads as index-at-reads
 
@@ -45,6 +47,12 @@ link-of-requires-2 : tie.Need-link-of-requires-2 Inv-loop μ-loop
 unfolding cells
 link-of-requires-2 c κs = omega arith
 
+kind-fits-requires : tie.Need-kind-fits-requires Inv-loop μ-loop
+kind-fits-requires c κs = search needs
+
+kind-fits-requires-2 : tie.Need-kind-fits-requires-2 Inv-loop μ-loop
+kind-fits-requires-2 c κs = search needs
+
 loop-less : tie.Need-loop-less Inv-loop μ-loop
 loop-less c = omega arith
 
@@ -54,7 +62,7 @@ loop-again c =
     let l = c .before .before .before .before .before .before .before .before .before .before .before .loop in
     let a = c .before .before .before .before .before .link-of .ensures in
     let b = c .before .before .before .before .link-of2 .ensures in
-    rw (a .0, b .0) (both-more _ (l .sold) (l .free) (l .left) (l .inv) (c .before .before .before .before .before .before .before .before .before .before .if1 .left) (c .before .before .before .before .before .before .before .before .before .if2 .left) (omega arith) (omega arith) (sym (a .1) ∙ c .before .before .if6 .left) (sym (b .1) ∙ c .if7 .left) (omega arith))
+    rw (a .0, b .0) (both-more _ (l .sold) (l .free) (l .left) (l .inv) (c .before .before .before .before .before .before .before .before .before .before .if1 .left) (c .before .before .before .before .before .before .before .before .before .if2 .left) (omega arith) (omega arith) (rw (a .1) at (sym (c .before .before .before .kind-fits .ensures) ∙ not-false _ (c .before .before .if6 .left))) (rw (b .1) at (sym (c .before .kind-fits2 .ensures) ∙ not-false _ (c .if7 .left))) (omega arith))
 
 returns : tie.Need-returns Inv-loop μ-loop
 returns c = λ h. c .before .loop .inv
@@ -89,6 +97,8 @@ walk-both-spec =
     loop-holds
     link-of-requires
     link-of-requires-2
+    kind-fits-requires
+    kind-fits-requires-2
     loop-less
     loop-again
     returns

@@ -2,6 +2,7 @@ use mathlib.Core.Path.{refl, sym, _∙_}
 use mathlib.Core.Bool.{false≢true}
 use mathlib.Core.List.{[]}
 use native.Mathlib.Omega.{arith}
+use borrow.Author.Tests.{not-false}
 use Rattle.cells.specs.Cells.{cells}
 use Rattle.chains.specs.Sound.{OneUpTo}
 use Rattle.chains.proofs.Sounds.{one-more}
@@ -10,13 +11,14 @@ use Rattle.chains.proofs.sound.walk_one.Statement.{statement}
 use Rattle.chains.proofs.sound.walk_one.Tie as tie
 use Rattle.chains.proofs.sound.walk_one.Reads as reads
 use Rattle.chains.proofs.sound.walk_one.Lts as lts
+use Rattle.cells.proofs.fields.kind_fits.Reads as kind-fits-reads
 use Rattle.cells.proofs.fields.link_of.Reads as link-of-reads
 
 abbrev Inv-loop : tie.InvT-loop
-Inv-loop s first kind most cells left₀ at₀ left at = OneUpTo s kind first at most left
+Inv-loop s first sold most cells left₀ at₀ left at = OneUpTo s sold first at most left
 
 abbrev μ-loop : tie.MeasureT-loop
-μ-loop s first kind most cells left₀ at₀ left at = left
+μ-loop s first sold most cells left₀ at₀ left at = left
 
 loop-holds : tie.Need-loop-holds Inv-loop μ-loop
 loop-holds c = record { chain = []; segment = refl; many = omega arith }
@@ -24,6 +26,9 @@ loop-holds c = record { chain = []; segment = refl; many = omega arith }
 link-of-requires : tie.Need-link-of-requires Inv-loop μ-loop
 unfolding cells
 link-of-requires c κs = omega arith
+
+kind-fits-requires : tie.Need-kind-fits-requires Inv-loop μ-loop
+kind-fits-requires c κs = search needs
 
 sub-left : tie.Need-sub-left Inv-loop μ-loop
 sub-left c = omega arith
@@ -36,7 +41,7 @@ unfolding cells
 loop-again c =
     let l = c .before .before .before .before .before .before .loop in
     let link = c .before .before .link-of .ensures in
-    rw (link .0) (one-more _ _ _ (l .at) _ (l .left) (l .inv) (c .before .before .before .before .before .if1 .left) (omega arith) (sym (link .1) ∙ c .if4 .left) (omega arith))
+    rw (link .0) (one-more _ _ _ (l .at) _ (l .left) (l .inv) (c .before .before .before .before .before .if1 .left) (omega arith) (rw (link .1) at (sym (c .before .kind-fits .ensures) ∙ not-false _ (c .if4 .left))) (omega arith))
 
 returns : tie.Need-returns Inv-loop μ-loop
 returns c = λ h. rw (c .if1 .taken) at (c .before .loop .inv)
@@ -58,6 +63,7 @@ walk-one-spec =
     μ-loop
     loop-holds
     link-of-requires
+    kind-fits-requires
     sub-left
     loop-less
     loop-again

@@ -3,10 +3,10 @@ use mathlib.Core.Bool.{Bool, cond, not}
 use mathlib.Core.List.{List}
 use Prim.Native.Nat.{ℕ, _/_, _*_, _≤_}
 use native.Mathlib.Omega.{arith}
-use lib.Dec.{eqb, ltb}
+use lib.Dec.{ltb}
 use lib.ListN.{length}
 use Rattle.cells.specs.Chains.{count}
-use Rattle.cells.specs.Cells.{cells, kindOf}
+use Rattle.cells.specs.Cells.{cells, kindOf, kindFits}
 use Rattle.cells.specs.Faults.{walkOf}
 use Rattle.chains.specs.Marks.{Marks, Unreached, FirstMisfit}
 use Rattle.cells.proofs.Walks.{walk-end, walk-past, walk-twice}
@@ -19,16 +19,17 @@ use Rattle.chains.proofs.walk.walk.Reads as reads
 use Rattle.chains.proofs.walk.walk.Lts as lts
 use Rattle.chains.proofs.marks.is_marked.Reads as is-marked-reads
 use Rattle.chains.proofs.marks.mark.Reads as mark-reads
+use Rattle.cells.proofs.fields.kind_fits.Reads as kind-fits-reads
 use Rattle.cells.proofs.fields.link_of.Reads as link-of-reads
 use Rattle.chains.proofs.walk.lesser.Reads as lesser-reads
 
 abbrev Inv-loop : tie.InvT-loop
-Inv-loop s marks₀ first kind misfit unreached cells left₀ lowest₀ from₀ at₀ marks left lowest from at =
+Inv-loop s marks₀ first sold misfit unreached cells left₀ lowest₀ from₀ at₀ marks left lowest from at =
     ((length marks ≡ length marks₀) × Unreached (length s / 64) marks left)
-    × ((fits : ℕ → Bool) (reached : List ℕ) → Marks marks₀ reached → FirstMisfit fits reached (length s / 64) misfit → ((c : ℕ) → count c reached ≡ 0 → fits c ≡ eqb (kindOf s c) kind) → On fits s marks kind left lowest from at (walkOf s (length s / 64) reached 0 first))
+    × ((fits : ℕ → Bool) (reached : List ℕ) → Marks marks₀ reached → FirstMisfit fits reached (length s / 64) misfit → ((c : ℕ) → count c reached ≡ 0 → fits c ≡ kindFits sold (kindOf s c)) → On fits s marks sold left lowest from at (walkOf s (length s / 64) reached 0 first))
 
 abbrev μ-loop : tie.MeasureT-loop
-μ-loop s marks₀ first kind misfit unreached cells left₀ lowest₀ from₀ at₀ marks left lowest from at = left
+μ-loop s marks₀ first sold misfit unreached cells left₀ lowest₀ from₀ at₀ marks left lowest from at = left
 
 loop-holds : tie.Need-loop-holds Inv-loop μ-loop
 unfolding cells
@@ -55,6 +56,9 @@ link-of-requires : tie.Need-link-of-requires Inv-loop μ-loop
 unfolding cells
 link-of-requires c κs = omega arith
 
+kind-fits-requires : tie.Need-kind-fits-requires Inv-loop μ-loop
+kind-fits-requires c κs = search needs
+
 lesser-requires : tie.Need-lesser-requires Inv-loop μ-loop
 lesser-requires c κs = search needs
 
@@ -78,7 +82,7 @@ loop-again c =
       (omega arith, unreached-less (l .marks) _ (l .at) _ (l .left) (omega arith) (l .inv .0 .1) (λ e. omega arith) (omega arith) new set),
       λ fits reached h k f.
           rw (link .0)
-          (onward fits _ (l .marks) _ _ (l .left) (l .lowest) _ (l .from) (l .at) _ some (λ e. omega arith) (omega arith) (omega arith) new set (rw (link .1) at (c .lesser .ensures)) (l .inv .1 fits reached h k f)),
+          (onward fits _ (l .marks) _ _ (l .left) (l .lowest) _ (l .from) (l .at) _ some (λ e. omega arith) (omega arith) (omega arith) new set (rw (c .before .kind-fits .ensures, link .1) at (c .lesser .ensures)) (l .inv .1 fits reached h k f)),
     )
 
 same-length : tie.Need-same-length Inv-loop μ-loop
@@ -122,6 +126,7 @@ walk-spec =
     mark-requires
     sub-left
     link-of-requires
+    kind-fits-requires
     lesser-requires
     loop-less
     loop-again

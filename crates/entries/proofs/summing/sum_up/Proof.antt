@@ -83,9 +83,10 @@ loop-again c =
     let a : c .before .before .before .before .open-sale .result .amount < 2 ^ 32 = search needs in
     let v = chosen-le (eqb (c .before .before .before .before .open-sale .result .means) 1) (c .before .before .before .before .open-sale .result .amount) in
     let e = c .before .cash-of .ensures in
-    let o = rw body at (sym (sale .0) ∙ not-false _ (c .before .before .if2 .left)) in
-    let m = rw body at (sale .1) in
-    rw (c .next-of .ensures) (sum-on _ _ _ _ _ k (c .before .before .before .before .before .before .if1 .left) _ o (e ∙ rw (m .0, m .1) (held-cash _ _ o)) (omega arith))
+    let o = rw body at (sym (sale .right) ∙ not-false _ (c .before .before .if2 .left)) in
+    let m = rw body at (sale .amount-is) in
+    let w = rw body at (sale .means-is) in
+    rw (c .next-of .ensures) (sum-on _ _ _ _ _ k (c .before .before .before .before .before .before .if1 .left) _ o (e ∙ rw (m, w) (held-cash _ _ o _)) (omega arith))
 
 -- src/summing.rt:22:1
 returns : tie.Need-returns Inv-loop μ-loop
@@ -97,7 +98,7 @@ returns-2 : tie.Need-returns-2 Inv-loop μ-loop
 unfolding summed opensAt
 returns-2 c =
     sum-shut _ _ _ _ _ (c .before .before .before .before .before .loop .inv) (c .before .before .before .before .if1 .left)
-    (rw (c .before .before .before .body-of .ensures) at (sym (c .before .before .open-sale .ensures .0) ∙ not-true _ (c .if2 .taken)))
+    (rw (c .before .before .before .body-of .ensures) at (sym (c .before .before .open-sale .ensures .right) ∙ not-true _ (c .if2 .taken)))
 
 pub sum-up-spec : {M : Type 1} → statement M
 sum-up-spec =

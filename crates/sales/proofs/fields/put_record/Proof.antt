@@ -1,12 +1,10 @@
--- Three numbers and the clock, one behind the other. Assumes nothing.
-use mathlib.Core.Path.{sym, _∙_}
+-- Five numbers, one behind the other. Assumes nothing.
+use mathlib.Core.Path.{_∙_}
 use mathlib.Core.List.{append-assoc}
 use native.Mathlib.Omega.{arith}
-use lib.ListN.{length-take, length-drop}
 use denote.Ref.{now}
 use Rattle.sales.specs.Sale.{recordOf}
-use Rattle.sales.proofs.Typed.{fields-fit}
-use Rattle.sales.proofs.Puts.{begins-none, begins-more, begins-low, begins-all}
+use Rattle.sales.proofs.Puts.{begins-none, begins-low, begins-all}
 use borrow.Author.Needs.{needs}
 use Rattle.sales.proofs.fields.put_record.Statement.{statement}
 use Rattle.sales.proofs.fields.put_record.Tie as tie
@@ -56,24 +54,35 @@ part-put-low-end-3 c = search needs
 put-low-requires-3 : tie.Need-put-low-requires-3
 put-low-requires-3 c κs = search needs
 
-slice-aggregate-put-bytes : tie.Need-slice-aggregate-put-bytes
-slice-aggregate-put-bytes c =
-    let start = c .before .before .before .before .before .before .before .before .before .before .before .before .before .before .before .before .before .before in
-    sym (fields-fit (start .args .of) _ (start .good .0) .clock-long)
+cast-put-low-4 : tie.Need-cast-put-low-4
+cast-put-low-4 c = search needs
 
-sub-put-bytes : tie.Need-sub-put-bytes
-sub-put-bytes c = search needs
+sub-put-low-4 : tie.Need-sub-put-low-4
+sub-put-low-4 c = search needs
 
-part-put-bytes-start : tie.Need-part-put-bytes-start
-part-put-bytes-start c = search needs
+part-put-low-start-4 : tie.Need-part-put-low-start-4
+part-put-low-start-4 c = search needs
 
-part-put-bytes-end : tie.Need-part-put-bytes-end
-part-put-bytes-end c = search needs
+part-put-low-end-4 : tie.Need-part-put-low-end-4
+part-put-low-end-4 c = search needs
 
-put-bytes-requires : tie.Need-put-bytes-requires
-put-bytes-requires c κs =
-    let start = c .before .before .before .before .before .before .before .before .before .before .before .before .before .before .before .before .before .before .before in
-    simp (length-take, length-drop) (omega (arith, fields-fit (start .args .of) _ (start .good .0) .clock-long))
+put-low-requires-4 : tie.Need-put-low-requires-4
+put-low-requires-4 c κs = search needs
+
+cast-put-low-5 : tie.Need-cast-put-low-5
+cast-put-low-5 c = search needs
+
+sub-put-low-5 : tie.Need-sub-put-low-5
+sub-put-low-5 c = search needs
+
+part-put-low-start-5 : tie.Need-part-put-low-start-5
+part-put-low-start-5 c = search needs
+
+part-put-low-end-5 : tie.Need-part-put-low-end-5
+part-put-low-end-5 c = search needs
+
+put-low-requires-5 : tie.Need-put-low-requires-5
+put-low-requires-5 c κs = search needs
 
 same-length : tie.Need-same-length
 same-length c = search needs
@@ -81,14 +90,15 @@ same-length c = search needs
 returns : tie.Need-returns
 unfolding recordOf
 returns c =
-    let start = c .before .before .before .before .before .before .before .before .before .before .before .before .before .before .before .before .before .before .before .before .before .before in
+    let start = c .before .before .before .before .before .before .before .before .before .before .before .before .before .before .before .before .before .before .before .before .before .before .before .before .before .before in
     let of = start .args .of in
     let none = begins-none (now (start .args .out)) (start .pre) in
-    let one = begins-low none 4 (of .amount) _ (omega arith) (c .before .before .before .before .before .before .before .before .before .before .before .before .before .before .before .before .before .put-low .ensures) in
-    let two = begins-low one 2 (of .column) _ (omega arith) (c .before .before .before .before .before .before .before .before .before .before .before .before .put-low2 .ensures) in
-    let three = begins-low two 1 (of .means) _ (omega arith) (c .before .before .before .before .before .before .before .put-low3 .ensures) in
-    let four = begins-more three 6 (of .clock) _ (omega arith) (fields-fit of _ (start .good .0) .clock-long) (c .before .before .put-bytes .ensures) in
-    begins-all four (omega arith) ∙ simp append-assoc
+    let one = begins-low none 4 (of .amount) _ (omega arith) (c .before .before .before .before .before .before .before .before .before .before .before .before .before .before .before .before .before .before .before .before .before .before .put-low .ensures) in
+    let two = begins-low one 2 (of .column) _ (omega arith) (c .before .before .before .before .before .before .before .before .before .before .before .before .before .before .before .before .before .put-low2 .ensures) in
+    let three = begins-low two 1 (of .means) _ (omega arith) (c .before .before .before .before .before .before .before .before .before .before .before .before .put-low3 .ensures) in
+    let four = begins-low three 4 (of .price) _ (omega arith) (c .before .before .before .before .before .before .before .put-low4 .ensures) in
+    let five = begins-low four 2 (of .day) _ (omega arith) (c .before .before .put-low5 .ensures) in
+    begins-all five (omega arith) ∙ simp append-assoc
 
 pub put-record-spec : {M : Type 1} → statement M
 put-record-spec =
@@ -109,10 +119,15 @@ put-record-spec =
     part-put-low-start-3
     part-put-low-end-3
     put-low-requires-3
-    slice-aggregate-put-bytes
-    sub-put-bytes
-    part-put-bytes-start
-    part-put-bytes-end
-    put-bytes-requires
+    cast-put-low-4
+    sub-put-low-4
+    part-put-low-start-4
+    part-put-low-end-4
+    put-low-requires-4
+    cast-put-low-5
+    sub-put-low-5
+    part-put-low-start-5
+    part-put-low-end-5
+    put-low-requires-5
     same-length
     returns)
