@@ -4,6 +4,6 @@ use Prim.Native.Nat.{ℕ}
 use Rattle.sales.specs.declared.Sale.{Sale}
 
 -- take's arguments from C as one sale
-abbrev pub saleOf : ℕ → ℕ → List ℕ → ℕ → ℕ → ℕ → List ℕ → Sale
-saleOf machine sale tail amount column means clock =
-    record { machine = machine; sale = sale; tail = tail; amount = amount; column = column; means = means; clock = clock }
+abbrev pub saleOf : ℕ → ℕ → List ℕ → ℕ → ℕ → ℕ → ℕ → ℕ → Sale
+saleOf machine sale tail amount column means price day =
+    record { machine = machine; sale = sale; tail = tail; amount = amount; column = column; means = means; price = price; day = day }

@@ -1,14 +1,15 @@
 // What C and Rust call. Each call's answer is one number: the refusal's number times 2^32, plus the
-// place; on success the call's value: the bytes written, a cell, an amount or an offset.
+// place; on success the call's value: the bytes written, a cell, an amount, an offset or a kind.
 use answers::Answer;
 use sales::Sale;
+use store::LookUp;
 ghost use mathlib.Core.Path.{_≡_};
 ghost use Rattle.answers.specs.Answers.{codeOf, coded, totalled};
 ghost use Rattle.sealing.specs.Sealing.{sealCall, openCall, openOldCall};
 ghost use Rattle.run_sealing.specs.RunSealing.{sealRunCall, openRunCall};
 ghost use Rattle.converting.specs.Converting.{convertCall};
 ghost use Rattle.walking.specs.Walking.{walkCall, jumpCall};
-ghost use Rattle.store.specs.Store.{formatCall, takeCall, cancelCall, totalCall, readOffset};
+ghost use Rattle.store.specs.Store.{formatCall, takeCall, cancelCall, totalCall, readOffset, lookUpCall, lookedUp};
 ghost use Rattle.calmbaize.specs.Arguments.{saleOf};
 
 // Seals a message: mode 1 is OPP, 2 is MRO; the output receives the ciphertext and then the tag.
@@ -153,9 +154,10 @@ pub extern "C" fn calmbaize_store_take(
     amount: u32,
     column: u16,
     means: u8,
-    clock: &[u8; 6],
+    price: u32,
+    day: u16,
 ) -> u64
-    ensures { λ r. ⌜ (r, now (store .exit)) ≡ coded (takeCall (now (key .entry)) (saleOf machine sale (now («nonce_tail» .entry)) amount column means (now (clock .entry))) (now (store .entry))) ⌝ }
+    ensures { λ r. ⌜ (r, now (store .exit)) ≡ coded (takeCall (now (key .entry)) (saleOf machine sale (now («nonce_tail» .entry)) amount column means price day) (now (store .entry))) ⌝ }
 {
     let of = Sale {
         machine,
@@ -164,7 +166,8 @@ pub extern "C" fn calmbaize_store_take(
         amount,
         column,
         means,
-        clock: *clock,
+        price,
+        day,
     };
     answers::code(store::take(key, store, of))
 }
@@ -203,4 +206,32 @@ pub extern "C" fn calmbaize_store_read(store: &[u8], machine: u32, sale: u32) ->
     ensures { λ r. ⌜ r ≡ codeOf (readOffset machine sale (now (store .entry))) ⌝ }
 {
     answers::code(store::read_offset(store, machine, sale))
+}
+
+// The amount and the listed price of a sale, to the last two arguments; answers its kind: 2, or 1 where it has
+// no price and that argument is unchanged.
+#[no_mangle]
+pub extern "C" fn calmbaize_store_look_up(
+    key: &[u8],
+    store: &[u8],
+    machine: u32,
+    sale: u32,
+    amount: &mut u32,
+    price: &mut u32,
+) -> u64
+    ensures { λ r. ⌜ (r, (now (amount .exit), now (price .exit))) ≡ lookedUp (lookUpCall (now (key .entry)) machine sale (now (store .entry))) (now (amount .entry)) (now (price .entry)) ⌝ }
+{
+    let found = store::look_up(key, store, machine, sale);
+    match found {
+        LookUp::Priced(paid, listed) => {
+            *amount = paid;
+            *price = listed;
+            2
+        }
+        LookUp::Unpriced(paid) => {
+            *amount = paid;
+            1
+        }
+        LookUp::Refused(ground, place) => answers::code(Answer::Refused(ground, place)),
+    }
 }

@@ -7,7 +7,7 @@ use Rattle.converting.proofs.Answered.{convert-small}
 use Rattle.run_sealing.proofs.Answered.{seal-run-small, open-run-small}
 use Rattle.walking.proofs.Answered.{walk-small, jump-small}
 use Rattle.store.specs.Store.{totalCall}
-use Rattle.store.proofs.Small.{format-small, take-small, cancel-small, total-place, read-small}
+use Rattle.store.proofs.Small.{format-small, take-small, cancel-small, total-place, read-small, look-up-small, look-ups-apart}
 use Rattle.demands.specs.ForC.{ForC}
 
 pub for-c : ForC
@@ -27,4 +27,6 @@ for-c = record {
   of-cancel = λ key machine sale s h. taken-apart _ (cancel-small key machine sale s h);
   of-total = λ key s. taken-apart _ (shown-lt _ _ (total-place key s));
   of-read = λ machine sale s. taken-apart _ (read-small machine sale s);
+  of-look-up = λ key machine sale s. taken-apart _ (look-up-small key machine sale s);
+  look-ups-apart = look-ups-apart;
 }

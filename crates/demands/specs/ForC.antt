@@ -11,7 +11,8 @@ use Rattle.converting.specs.Converting.{convertCall}
 use Rattle.run_sealing.specs.RunSealing.{sealRunCall, openRunCall}
 use Rattle.walking.specs.Walking.{walkCall, jumpCall}
 use Rattle.sales.specs.declared.Sale.{Sale}
-use Rattle.store.specs.Store.{formatCall, takeCall, cancelCall, totalCall, readOffset}
+use Rattle.store.specs.Store.{formatCall, takeCall, cancelCall, totalCall, readOffset, lookUpCall, kindTold, lookedUp}
+use Rattle.store.specs.declared.LookUp.{LookUp}
 
 -- divided by 2^32 it is the refusal's number, 0 on success; the remainder is the value, or the place of the refusal
 abbrev pub Decodes : Answer → Type 0
@@ -35,3 +36,6 @@ pub record ForC : Type 0 where
   pub of-cancel : (key : List ℕ) (machine sale : ℕ) (s : List ℕ) → Bytes s → Decodes (cancelCall key machine sale s .0)
   pub of-total : (key s : List ℕ) → Decodes (shown (totalCall key s))
   pub of-read : (machine sale : ℕ) (s : List ℕ) → Decodes (readOffset machine sale s)
+  pub of-look-up : (key : List ℕ) (machine sale : ℕ) (s : List ℕ) → Decodes (kindTold (lookUpCall key machine sale s))
+  -- and every two look-ups, by the number and the two variables, whatever these held before: so "a mark for no price" is "told apart from price 0" and from every other
+  pub look-ups-apart : (a b : LookUp) (amount price : ℕ) → valueOf (kindTold a) < 2 ^ 32 → valueOf (kindTold b) < 2 ^ 32 → lookedUp a amount price ≡ lookedUp b amount price → a ≡ b

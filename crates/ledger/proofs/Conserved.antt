@@ -15,13 +15,13 @@ use Rattle.answers.proofs.Values.{isDone, checked-unchanged}
 use Rattle.cells.specs.Cells.{firstFree, sales, lengthFits}
 use Rattle.cells.specs.Faults.{lengthOr, faultCheck}
 use Rattle.cells.proofs.Form.{in-all}
-use Rattle.sales.specs.declared.Sale.{Sale}
+use Rattle.sales.specs.Sale.{StoredSale}
 use Rattle.entries.specs.Entries.{opensAt, salesIn}
 use Rattle.store.specs.Store.{formatChecks, takeChecks, cancelChecks, formatCall, takeCall, cancelCall, totalCall}
-use Rattle.ledger.specs.Book.{Call, Book, found, coins, newBook, bookTake, bookCancel, entered, amountBack, AllFit, NoFormat}
-use Rattle.ledger.specs.Book.Call.{format, take, cancel, total, read}
+use Rattle.ledger.specs.Book.{Call, Book, found, coins, newBook, bookTake, bookCancel, entered, amountBack, bothTold, AllFit, NoFormat}
+use Rattle.ledger.specs.Book.Call.{format, take, cancel, total, read, lookUp}
 use Rattle.ledger.specs.Conserved.{called, storeAfter, kept, Agrees, Conserved}
-use Rattle.ledger.proofs.Sound.{total-sound, total-accepts, cancel-answers, read-holds, take-answers}
+use Rattle.ledger.proofs.Sound.{total-sound, total-accepts, cancel-answers, look-up-answers, read-holds, take-answers}
 use Rattle.ledger.proofs.Kept.{Kept, kept-new, kept-format, kept-after}
 
 -- ---- store and ledger agree
@@ -32,9 +32,10 @@ agrees key s b k i = record {
   all-open = in-all (opensAt key s) (sales s) (i .sound .all-open);
   figure = total-sound key s k (i .sound) ∙ ap Done (ap coins (i .stands) ∙ omega (arith, i .balanced));
   most = omega (arith, i .balanced);
-  standing-figure = total-sound key s k (i .sound) ∙ ap (λ (l : List Sale). Done (coins l)) (i .stands);
-  gives-back = λ machine sale. cancel-answers key machine sale s (i .sound) k ∙ ap (λ (l : List Sale). amountBack (found machine sale l)) (i .stands);
+  standing-figure = total-sound key s k (i .sound) ∙ ap (λ (l : List StoredSale). Done (coins l)) (i .stands);
+  gives-back = λ machine sale. cancel-answers key machine sale s (i .sound) k ∙ ap (λ (l : List StoredSale). amountBack (found machine sale l)) (i .stands);
   takes = λ x. rw (← i .stands) (take-answers key x s (i .sound) k);
+  looks-up = λ machine sale. look-up-answers key machine sale s (i .sound) k ∙ ap (λ (l : List StoredSale). bothTold (found machine sale l)) (i .stands);
   reads = λ machine sale. read-holds key machine sale s (i .sound) ∙ ap (found machine sale) (i .stands);
 }
 
@@ -60,6 +61,7 @@ unchanged key s (take x) g at e = done-unchanged (takeChecks key x s) (firstFree
 unchanged key s (cancel machine sale) g at e = done-unchanged (cancelChecks key machine sale s) _ s _ g at e
 unchanged key s total g at e = refl
 unchanged key s (read machine sale) g at e = refl
+unchanged key s (lookUp machine sale) g at e = refl
 
 -- ---- the first figure
 
@@ -75,6 +77,8 @@ stays total calls w (Done v) b = (refl, w)
 stays total calls w (Refused g p) b = (refl, w)
 stays (read machine sale) calls w (Done v) b = (refl, w)
 stays (read machine sale) calls w (Refused g p) b = (refl, w)
+stays (lookUp machine sale) calls w (Done v) b = (refl, w)
+stays (lookUp machine sale) calls w (Refused g p) b = (refl, w)
 
 until : (key s : List ℕ) (b : Book) (calls : List Call) → NoFormat calls → kept key calls s b .first ≡ b .first
 unfolding kept
@@ -92,6 +96,7 @@ zero-stays (take x) (Done v) b e = e
 zero-stays (cancel machine sale) (Done v) b e = e
 zero-stays total (Done v) b e = e
 zero-stays (read machine sale) (Done v) b e = e
+zero-stays (lookUp machine sale) (Done v) b e = e
 
 zero-kept : (key s : List ℕ) (b : Book) (calls : List Call) → b .first ≡ 0 → kept key calls s b .first ≡ 0
 unfolding kept

@@ -13,11 +13,11 @@ use Rattle.answers.specs.declared.Answer.the-variants.{Done, Refused}
 use Rattle.cells.specs.Cells.{cells, firstFree, lengthFits, present, cellNamed, cellBefore}
 use Rattle.cells.specs.Changes.{fresh, filled, emptied}
 use Rattle.sales.specs.declared.Sale.{Sale}
-use Rattle.sales.specs.Sale.{Fits, bodyFor}
+use Rattle.sales.specs.Sale.{StoredSale, storedAs, Fits, bodyFor}
 use Rattle.entries.specs.Entries.{salesIn}
-use Rattle.store.specs.Store.{formatChecks, takeChecks, cancelChecks, formatCall, takeCall, cancelCall, totalCall, readOffset}
+use Rattle.store.specs.Store.{formatChecks, takeChecks, cancelChecks, formatCall, takeCall, cancelCall, totalCall, readOffset, lookUpCall, kindTold}
 use Rattle.ledger.specs.Book.{Call, Book, found, without, coins, newBook, bookTake, bookCancel, entered, AllFit}
-use Rattle.ledger.specs.Book.Call.{format, take, cancel, total, read}
+use Rattle.ledger.specs.Book.Call.{format, take, cancel, total, read, lookUp}
 use Rattle.ledger.specs.Conserved.{called, storeAfter, kept}
 use Rattle.ledger.proofs.Sales.{coins-append, coins-parted}
 use Rattle.ledger.proofs.Sound.{Sound, take-clear, cancel-clear, format-clear, fresh-sound, filled-sound, emptied-sound}
@@ -27,7 +27,7 @@ use Rattle.ledger.proofs.Sound.{Sound, take-clear, cancel-clear, format
 abbrev pub Balanced : Book → Type 0
 Balanced b = coins (b .standing) + coins (b .cancelled) ≡ b .first + coins (b .taken)
 
-balanced-new : (first : ℕ) (l : List Sale) → coins l ≡ first → Balanced (newBook first l)
+balanced-new : (first : ℕ) (l : List StoredSale) → coins l ≡ first → Balanced (newBook first l)
 unfolding newBook coins
 balanced-new first l e = omega arith
 
@@ -49,7 +49,7 @@ pub record Kept (key s : List ℕ) (b : Book) : Type 0 where
 
 module _ (key : List ℕ) where
   -- a new ledger
-  pub kept-new : (s : List ℕ) (first : ℕ) (l : List Sale) → Sound key s → salesIn key s ≡ l → coins l ≡ first → Kept key s (newBook first l)
+  pub kept-new : (s : List ℕ) (first : ℕ) (l : List StoredSale) → Sound key s → salesIn key s ≡ l → coins l ≡ first → Kept key s (newBook first l)
   unfolding newBook
   kept-new s first l h e f = record { sound = h; stands = e; balanced = balanced-new first l f }
 
@@ -61,7 +61,7 @@ module _ (key : List ℕ) where
   unfolding bookTake
   kept-take x k w s b i n =
       let h = filled-sound key x k w s (i .sound) n in
-      record { sound = h .0; stands = h .1 ∙ ap (λ (l : List Sale). x ∷ l) (i .stands); balanced = balanced-take x b (i .balanced) }
+      record { sound = h .0; stands = h .1 ∙ ap (λ (l : List StoredSale). storedAs x ∷ l) (i .stands); balanced = balanced-take x b (i .balanced) }
 
   kept-cancel : (machine sale : ℕ) (s : List ℕ) (b : Book) → Kept key s b → present machine sale s ≡ true
       → Kept key (emptied (cellBefore machine sale s) (cellNamed machine sale s) s) (bookCancel machine sale b)
@@ -79,16 +79,11 @@ module _ (key : List ℕ) where
   by-checks call Clear v s t b i h = h refl
   by-checks call (Fails g p) v s t b i h = i
 
-  -- total and read leave both, whatever they answer
-  by-total : (a : Answer) (s : List ℕ) (b : Book) → Kept key s b → Kept key s (entered total a b)
+  -- a call that the ledger passes over leaves both, whatever it answers
+  by-reading : (call : Call) → ((v : ℕ) (b : Book) → entered call (Done v) b ≡ b) → (a : Answer) (s : List ℕ) (b : Book) → Kept key s b → Kept key s (entered call a b)
   unfolding entered
-  by-total (Done v) s b i = i
-  by-total (Refused g p) s b i = i
-
-  by-read : (machine sale : ℕ) (a : Answer) (s : List ℕ) (b : Book) → Kept key s b → Kept key s (entered (read machine sale) a b)
-  unfolding entered
-  by-read machine sale (Done v) s b i = i
-  by-read machine sale (Refused g p) s b i = i
+  by-reading call e (Done v) s b i = rw (e v b) i
+  by-reading call e (Refused g p) s b i = i
 
   module _ (k : Bytes key) where
     step : (call : Call) (calls : List Call) → AllFit (call ∷ calls) → (s : List ℕ) (b : Book) → Kept key s b
@@ -99,8 +94,9 @@ module _ (key : List ℕ) where
         (by-checks (take x) (takeChecks key x s) (firstFree s) s _ b i (λ e. kept-take x k (w .0) s b i (take-clear key x s e)), w .1)
     step (cancel machine sale) calls w s b i =
         (by-checks (cancel machine sale) (cancelChecks key machine sale s) _ s _ b i (λ e. kept-cancel machine sale s b i (cancel-clear key machine sale s e)), w)
-    step total calls w s b i = (by-total (totalCall key s) s b i, w)
-    step (read machine sale) calls w s b i = (by-read machine sale (readOffset machine sale s) s b i, w)
+    step total calls w s b i = (by-reading total (λ v b. refl) (totalCall key s) s b i, w)
+    step (read machine sale) calls w s b i = (by-reading (read machine sale) (λ v b. refl) (readOffset machine sale s) s b i, w)
+    step (lookUp machine sale) calls w s b i = (by-reading (lookUp machine sale) (λ v b. refl) (kindTold (lookUpCall key machine sale s)) s b i, w)
 
     -- after any history
     pub kept-after : (calls : List Call) → AllFit calls → (s : List ℕ) (b : Book) → Kept key s b → Kept key (storeAfter key calls s) (kept key calls s b)

@@ -16,21 +16,21 @@ use Rattle.answers.specs.declared.Check.the-variants.{Clear}
 use Rattle.answers.specs.declared.Answer.the-variants.{Done}
 use Rattle.answers.proofs.Values.{line-clear, lineAt-clear, judged-done}
 use Rattle.cells.specs.Chains.{count, some, first}
-use Rattle.cells.specs.Cells.{cells, firstFree, bodyOf, sales, free, lengthFits, formed, named, present, cellNamed, cellBefore}
+use Rattle.cells.specs.Cells.{cells, firstFree, kindOf, bodyOf, sales, free, lengthFits, formed, named, present, cellNamed, cellBefore}
 use Rattle.cells.specs.Changes.{fresh, filled, emptied}
 use Rattle.cells.proofs.Cells.{body-length}
 use Rattle.cells.proofs.Chains.{In, others, first-in, others-in}
 use Rattle.cells.proofs.Form.{Form, form-of, of-form, size-of, sales-are, long-of, in-cases, none-in, in-none}
 use Rattle.cells.proofs.FirstFault.{check-formed, formed-check, length-clear}
-use Rattle.cells.proofs.Filled.{filled-form, filled-body, filled-others}
+use Rattle.cells.proofs.Filled.{filled-form, filled-new, filled-others}
 use Rattle.cells.proofs.Emptied.{emptied-form, emptied-others}
 use Rattle.cells.proofs.Fresh.{fresh-form}
 use Rattle.sales.specs.declared.Sale.{Sale}
-use Rattle.sales.specs.Sale.{Fits, bodyFor, opens, saleIn}
+use Rattle.sales.specs.Sale.{StoredSale, Fits, bodyFor, storedAs, opens, saleIn}
 use Rattle.sales.proofs.Bodies.{body-long, body-opens, body-sale}
 use Rattle.entries.specs.Entries.{opensAt, shutAt, saleAt, salesIn, cash}
-use Rattle.store.specs.Store.{formChecks, keyChecks, formatChecks, takeChecks, cancelChecks, totalChecks, readChecks, takeCall, cancelCall, totalCall, partWhere, readPart}
-use Rattle.ledger.specs.Book.{isNamed, found, without, coins, amountBack, cellTaken}
+use Rattle.store.specs.Store.{formChecks, keyChecks, formatChecks, takeChecks, cancelChecks, totalChecks, readChecks, takeCall, cancelCall, totalCall, partWhere, readPart, amountAndPrice, lookUpWhere, lookUpCall}
+use Rattle.ledger.specs.Book.{isNamed, found, without, coins, amountBack, bothTold, cellTaken}
 use Rattle.ledger.specs.Conserved.{heldIn}
 use Rattle.ledger.proofs.Sales.{map-ext, without-map, found-map, cash-coins}
 
@@ -129,34 +129,35 @@ module _ (key : List ℕ) where
     opens-now : (fs : List ℕ) → Form s (sales s) (firstFree s ∷ fs) → (c : ℕ) → In c (firstFree s ∷ sales s) → opensAt key out c ≡ true
     unfolding opensAt out
     opens-now fs f c i = elim (in-cases (firstFree s) c (sales s) i) [
-      | inl z ↦ rw (← z) (ap (opens key) (filled-body (bodyFor key x) s (sales s) fs full f) ∙ body-opens key x b w)
-      | inr j ↦ ap (opens key) (filled-others (bodyFor key x) s (sales s) fs full f c j) ∙ h .all-open c j
+      | inl z ↦ rw (← z) (ap (opens key) (filled-new (bodyFor key x) s (sales s) fs full f .1) ∙ body-opens key x b w)
+      | inr j ↦ ap (opens key) (filled-others (bodyFor key x) s (sales s) fs full f c j .1) ∙ h .all-open c j
     ]
 
-    sales-now : (fs : List ℕ) → Form s (sales s) (firstFree s ∷ fs) → map (saleAt key out) (firstFree s ∷ sales s) ≡ x ∷ salesIn key s
+    sales-now : (fs : List ℕ) → Form s (sales s) (firstFree s ∷ fs) → map (saleAt key out) (firstFree s ∷ sales s) ≡ storedAs x ∷ salesIn key s
     unfolding salesIn saleAt out
     sales-now fs f =
-        ap₂ (λ (y : Sale) (l : List Sale). y ∷ l) (ap (saleIn key) (filled-body (bodyFor key x) s (sales s) fs full f) ∙ body-sale key x b w)
-        (map-ext (saleAt key out) (saleAt key s) (sales s) (λ c i. ap (saleIn key) (filled-others (bodyFor key x) s (sales s) fs full f c i)))
+        let new = filled-new (bodyFor key x) s (sales s) fs full f in
+        ap₂ (λ (y : StoredSale) (l : List StoredSale). y ∷ l) (ap₂ (saleIn key) (new .0) (new .1) ∙ body-sale key x b w)
+        (map-ext (saleAt key out) (saleAt key s) (sales s) (λ c i. let o = filled-others (bodyFor key x) s (sales s) fs full f c i in ap₂ (saleIn key) (o .0) (o .1)))
 
     -- a sound store with that sale in front
-    pub filled-sound : (firstFree s ≡ 0 → ⊥) → Sound key (filled (bodyFor key x) s) × (salesIn key (filled (bodyFor key x) s) ≡ x ∷ salesIn key s)
+    pub filled-sound : (firstFree s ≡ 0 → ⊥) → Sound key (filled (bodyFor key x) s) × (salesIn key (filled (bodyFor key x) s) ≡ storedAs x ∷ salesIn key s)
     unfolding out
     filled-sound n = go (free s) (form-of s (h .form))
       where
-        go : (fs : List ℕ) → Form s (sales s) fs → Sound key out × (salesIn key out ≡ x ∷ salesIn key s)
+        go : (fs : List ℕ) → Form s (sales s) fs → Sound key out × (salesIn key out ≡ storedAs x ∷ salesIn key s)
         go [] f = absurd (n (f .spare))
         go (c ∷ fs) f =
             let g : Form s (sales s) (firstFree s ∷ fs) = subst (λ (y : ℕ). Form s (sales s) (y ∷ fs)) (sym (f .spare .0)) f in
             let f′ = filled-form (bodyFor key x) s (sales s) fs full g in
             (sound-of out (firstFree s ∷ sales s) fs f′ (opens-now fs g), sales-of out (firstFree s ∷ sales s) fs f′ ∙ sales-now fs g)
 
-  -- ---- cancel and read
+  -- ---- cancel, look-up and read
 
-  held-long : (body : List ℕ) → length body ≡ 61 → heldIn key body ≡ saleIn key body ∷ []
+  held-long : (kind : ℕ) (body : List ℕ) → length body ≡ 61 → heldIn key kind body ≡ saleIn key kind body ∷ []
   unfolding heldIn
-  held-long [] e = absurd (omega (arith, e))
-  held-long (x ∷ l) e = refl
+  held-long kind [] e = absurd (omega (arith, e))
+  held-long kind (x ∷ l) e = refl
 
   module _ (machine sale : ℕ) (s : List ℕ) (h : Sound key s) where
     same : (c : ℕ) → named machine sale s c ≡ isNamed machine sale (saleAt key s c)
@@ -174,8 +175,8 @@ module _ (key : List ℕ) where
         let f = form-of s (h .form) in
         let f′ = emptied-form test s cs (free s) f y in
         let kept = emptied-others test s cs (free s) f y in (
-          sound-of out (others test cs) _ f′ (λ c i. unfold opensAt in ap (opens key) (kept c i) ∙ h .all-open c (others-in test cs y c i)),
-          sales-of out (others test cs) _ f′ ∙ map-ext (saleAt key out) (saleAt key s) (others test cs) (λ c i. unfold saleAt in ap (saleIn key) (kept c i))
+          sound-of out (others test cs) _ f′ (λ c i. unfold opensAt in ap (opens key) (kept c i .1) ∙ h .all-open c (others-in test cs y c i)),
+          sales-of out (others test cs) _ f′ ∙ map-ext (saleAt key out) (saleAt key s) (others test cs) (λ c i. unfold saleAt in ap₂ (saleIn key) (kept c i .0) (kept c i .1))
               ∙ sym (unfold salesIn in without-map machine sale (saleAt key s) test same cs),
         )
 
@@ -204,17 +205,34 @@ module _ (key : List ℕ) where
         let next = line (not (present machine sale s)) SaleNumbers (lineAt (shutAt key s c) TagDiffers c Clear) in
         rw (keys-next key s next k (h .form), sale-found) (answers-by (present machine sale s) refl _)
 
+    -- what a look-up answers once key and form are right
+    looks-by : (t : Bool) → present machine sale s ≡ t
+        → lookUpWhere (line (not (present machine sale s)) SaleNumbers (lineAt (shutAt key s (cellNamed machine sale s)) TagDiffers (cellNamed machine sale s) Clear))
+        (amountAndPrice (saleAt key s (cellNamed machine sale s)))
+        ≡ bothTold (cond t (saleAt key s (cellNamed machine sale s) ∷ []) [])
+    unfolding line lineAt lookUpWhere bothTold
+    looks-by true e = rw (e, shut-open s (cellNamed machine sale s) (h .all-open (cellNamed machine sale s) (named-in e))) refl
+    looks-by false e = rw e
+
+    -- a look-up answers amount and price of the sale that stands first under these numbers, or 16
+    pub look-up-answers : length key ≡ 32 → lookUpCall key machine sale s ≡ bothTold (found machine sale (salesIn key s))
+    unfolding lookUpCall cancelChecks
+    look-up-answers k =
+        let c = cellNamed machine sale s in
+        let next = line (not (present machine sale s)) SaleNumbers (lineAt (shutAt key s c) TagDiffers c Clear) in
+        rw (keys-next key s next k (h .form), sale-found) (looks-by (present machine sale s) refl)
+
     -- the part that read hands out once the form is right
     part-holds : (t : Bool) → present machine sale s ≡ t
-        → heldIn key (partWhere (line (not t) SaleNumbers Clear) (bodyOf s (cellNamed machine sale s))) ≡ cond t (saleAt key s (cellNamed machine sale s) ∷ []) []
+        → heldIn key (kindOf s (cellNamed machine sale s)) (partWhere (line (not t) SaleNumbers Clear) (bodyOf s (cellNamed machine sale s))) ≡ cond t (saleAt key s (cellNamed machine sale s) ∷ []) []
     unfolding line lineAt partWhere heldIn saleAt
     part-holds true e =
         let c = cellNamed machine sale s in
-        held-long (bodyOf s c) (body-length s c (form-of s (h .form) .sold-here c (named-in e)))
+        held-long (kindOf s c) (bodyOf s c) (body-length s c (form-of s (h .form) .sold-here c (named-in e)))
     part-holds false e = refl
 
     -- read hands out the sale that stands first under these numbers, or none
-    pub read-holds : heldIn key (readPart machine sale s) ≡ found machine sale (salesIn key s)
+    pub read-holds : heldIn key (kindOf s (cellNamed machine sale s)) (readPart machine sale s) ≡ found machine sale (salesIn key s)
     unfolding readPart readChecks formChecks line lineAt
     read-holds = rw (formed-check s _ (h .form), sale-found) (part-holds (present machine sale s) refl)
 
@@ -230,7 +248,7 @@ module _ (key : List ℕ) where
       go (c ∷ fs) f =
           rw (ne-eqb (firstFree s) 0 (λ z. omega (arith, f .spare .0, f .spare .1)), lt-ltb (length (sales s) + 1) (cells s) (omega (arith, size-of s (sales s) (c ∷ fs) f)))
 
-  taken-by : (t left : Bool) (y : Sale) (c : ℕ) (s r : List ℕ)
+  taken-by : (t left : Bool) (y : StoredSale) (c : ℕ) (s r : List ℕ)
       → checked (line t SaleNumbers (line (not left) StoreFull Clear)) s (Done c, r) .0 ≡ cellTaken (cond t (y ∷ []) []) left c
   unfolding line lineAt checked cellTaken
   taken-by true left y c s r = refl

@@ -1,4 +1,4 @@
--- The ledger of a store: what a history of calls says of it, by the calls' own arguments and by which were refused (document 02, card 1). Assumes nothing.
+-- The ledger of a store: what a history of calls says of it, by the calls' own arguments and by which were refused (document 02, cards 1 and 8). Assumes nothing.
 use mathlib.Core.Bool.{Bool, true, false, cond, _&&_}
 use mathlib.Core.List.{List, [], _∷_, _++_}
 use Prim.Native.Nat.{ℕ, _+_}
@@ -7,26 +7,29 @@ use Rattle.answers.specs.declared.Ground.the-variants.{StoreFull, SaleNumbers}
 use Rattle.answers.specs.declared.Answer.{Answer}
 use Rattle.answers.specs.declared.Answer.the-variants.{Done, Refused}
 use Rattle.sales.specs.declared.Sale.{Sale}
-use Rattle.sales.specs.Sale.{Fits}
+use Rattle.sales.specs.Sale.{StoredSale, storedAs, Fits}
+use Rattle.store.specs.Store.{amountAndPrice}
+use Rattle.store.specs.declared.LookUp.{LookUp}
+use Rattle.store.specs.declared.LookUp.the-variants.{Refused as NotFound}
 
 -- ---- sales
 
 -- the sale has this machine and sale number
-unfoldable pub isNamed : ℕ → ℕ → Sale → Bool
+unfoldable pub isNamed : ℕ → ℕ → StoredSale → Bool
 isNamed machine sale x = eqb (x .machine) machine && eqb (x .sale) sale
 
 -- the first sale of these numbers, alone; none where there is none
-unfoldable pub found : ℕ → ℕ → List Sale → List Sale
+unfoldable pub found : ℕ → ℕ → List StoredSale → List StoredSale
 found machine sale [] = []
 found machine sale (x ∷ l) = cond (isNamed machine sale x) (x ∷ []) (found machine sale l)
 
 -- all but that one
-unfoldable pub without : ℕ → ℕ → List Sale → List Sale
+unfoldable pub without : ℕ → ℕ → List StoredSale → List StoredSale
 without machine sale [] = []
 without machine sale (x ∷ l) = cond (isNamed machine sale x) l (x ∷ without machine sale l)
 
--- coin amounts: the amounts of the sales paid in coin, means 1, added up
-unfoldable pub coins : List Sale → ℕ
+-- coin amounts: the amounts of the sales paid in coin, means 1, added up, "of both kinds"
+unfoldable pub coins : List StoredSale → ℕ
 coins [] = 0
 coins (x ∷ l) = cond (eqb (x .means) 1) (x .amount) 0 + coins l
 
@@ -39,6 +42,7 @@ pub data Call : Type 0 where
   cancel : (machine sale : ℕ) → Call
   total : Call
   read : (machine sale : ℕ) → Call
+  lookUp : (machine sale : ℕ) → Call
 
 -- each take's arguments have their widths
 abbrev pub AllFit : List Call → Type 0
@@ -48,6 +52,7 @@ AllFit (take x ∷ calls) = Fits x × AllFit calls
 AllFit (cancel machine sale ∷ calls) = AllFit calls
 AllFit (total ∷ calls) = AllFit calls
 AllFit (read machine sale ∷ calls) = AllFit calls
+AllFit (lookUp machine sale ∷ calls) = AllFit calls
 
 -- no call of the history is format
 abbrev pub NoFormat : List Call → Type 0
@@ -57,23 +62,24 @@ NoFormat (take x ∷ calls) = NoFormat calls
 NoFormat (cancel machine sale ∷ calls) = NoFormat calls
 NoFormat (total ∷ calls) = NoFormat calls
 NoFormat (read machine sale ∷ calls) = NoFormat calls
+NoFormat (lookUp machine sale ∷ calls) = NoFormat calls
 
 -- ---- the ledger
 
--- the figure that it begins with; the sales taken and cancelled since; and those that stand, in the order of the store's chain
+-- the figure that it begins with; the sales taken and cancelled since; and those that stand, of either kind with every field, in the order of the store's chain
 pub record Book : Type 0 where
   pub first : ℕ
-  pub taken : List Sale
-  pub cancelled : List Sale
-  pub standing : List Sale
+  pub taken : List StoredSale
+  pub cancelled : List StoredSale
+  pub standing : List StoredSale
 
 -- a new one: nothing taken or cancelled yet
-unfoldable pub newBook : ℕ → List Sale → Book
+unfoldable pub newBook : ℕ → List StoredSale → Book
 newBook first standing = record { first = first; taken = []; cancelled = []; standing = standing }
 
--- take puts its sale in front
+-- take puts its sale in front, of kind 2 with the price and the day that were handed in
 unfoldable pub bookTake : Sale → Book → Book
-bookTake x b = record { first = b .first; taken = x ∷ b .taken; cancelled = b .cancelled; standing = x ∷ b .standing }
+bookTake x b = record { first = b .first; taken = storedAs x ∷ b .taken; cancelled = b .cancelled; standing = storedAs x ∷ b .standing }
 
 -- cancel moves the first sale that stands under these numbers to the cancelled
 unfoldable pub bookCancel : ℕ → ℕ → Book → Book
@@ -92,14 +98,20 @@ entered (take x) (Done value) b = bookTake x b
 entered (cancel machine sale) (Done value) b = bookCancel machine sale b
 entered total (Done value) b = b
 entered (read machine sale) (Done value) b = b
+entered (lookUp machine sale) (Done value) b = b
 
--- what cancel has to answer, by the sale that it removes: the amount of this sale; 16 where there is none
-unfoldable pub amountBack : List Sale → Answer
+-- what cancel has to answer, by the sale that it removes: the amount of this sale, never its price; 16 where there is none
+unfoldable pub amountBack : List StoredSale → Answer
 amountBack [] = Refused SaleNumbers 0
 amountBack (x ∷ l) = Done (x .amount)
 
+-- what a look-up has to answer, by the sale that stands under its numbers: amount and price as taken, or for one with a clock the amount and the mark for no price; 16 where there is none
+unfoldable pub bothTold : List StoredSale → LookUp
+bothTold [] = NotFound SaleNumbers 0
+bothTold (x ∷ l) = amountAndPrice x
+
 -- what take has to answer: 16 where a sale stands under its numbers, then 15 where no cell is left, else the cell given
-unfoldable pub cellTaken : List Sale → Bool → ℕ → Answer
+unfoldable pub cellTaken : List StoredSale → Bool → ℕ → Answer
 cellTaken (x ∷ l) left cell = Refused SaleNumbers 0
 cellTaken [] false cell = Refused StoreFull 0
 cellTaken [] true cell = Done cell

@@ -1,6 +1,6 @@
 -- What the calls answer is small: each place, and each value but the total. Assumes nothing.
-use mathlib.Core.Path.{_≡_}
-use mathlib.Core.Bool.{true, not}
+use mathlib.Core.Path.{_≡_, refl, sym, ap, _∙_}
+use mathlib.Core.Bool.{true, not, cond}
 use mathlib.Core.List.{List}
 use Prim.Native.Nat.{ℕ, _+_, _*_, _^_, _<_}
 use native.Mathlib.Omega.{arith}
@@ -13,6 +13,9 @@ use Rattle.answers.specs.Answers.{valueOf, line}
 use Rattle.answers.specs.declared.Ground.the-variants.{KeyLength, TagDiffers, StoreFull, SaleNumbers}
 use Rattle.answers.specs.declared.Check.{Check}
 use Rattle.answers.specs.declared.Check.the-variants.{Clear, Fails}
+use Rattle.answers.specs.declared.Answer.{Answer}
+use Rattle.answers.specs.declared.Answer.the-variants.{Done, Refused}
+use Rattle.answers.proofs.Numbers.{told-apart}
 use Rattle.answers.proofs.Values.{placeOf, line-clear, lineAt-lt, checked-lt, judged-lt}
 use Rattle.cells.specs.Chains.{some, first}
 use Rattle.cells.specs.Cells.{cells, firstFree, bodyOf, sales, formed, present, cellNamed}
@@ -24,7 +27,9 @@ use Rattle.sales.specs.Sale.{Detail}
 use Rattle.sales.specs.Sale.Detail.{clock, listed}
 use Rattle.sales.proofs.Bodies.{amount-lt}
 use Rattle.entries.specs.Entries.{shutAt, saleAt}
-use Rattle.store.specs.Store.{formChecks, keyChecks, formatChecks, takeChecks, cancelChecks, totalChecks, readChecks, formatCall, takeCall, cancelCall, readOffset, withPrice, amountAndPrice, lookUpWhere, lookUpCall, kindTold}
+use Rattle.store.specs.declared.LookUp.{LookUp}
+use Rattle.store.specs.declared.LookUp.the-variants.{Priced, Unpriced, Refused as NotFound}
+use Rattle.store.specs.Store.{formChecks, keyChecks, formatChecks, takeChecks, cancelChecks, totalChecks, readChecks, formatCall, takeCall, cancelCall, readOffset, withPrice, amountAndPrice, lookUpWhere, lookUpCall, kindTold, amountTold, priceTold, lookedUp}
 use Rattle.store.proofs.Sought.{cell-inside, free-inside}
 use Rattle.store.proofs.Calls.{key-all}
 
@@ -85,6 +90,25 @@ looked-lt (Fails g at) amount d h = h
 pub look-up-small : (key : List ℕ) (machine sale : ℕ) (s : List ℕ) → valueOf (kindTold (lookUpCall key machine sale s)) < 2 ^ 32
 unfolding lookUpCall amountAndPrice
 look-up-small key machine sale s = looked-lt (cancelChecks key machine sale s) _ _ (cancel-place key machine sale s)
+
+-- a look-up by its number and the two variables
+abbrev lookUpOf : Answer → ℕ → ℕ → LookUp
+lookUpOf (Done kind) amount price = cond (eqb kind 2) (Priced amount price) (Unpriced amount)
+lookUpOf (Refused ground place) amount price = NotFound ground place
+
+look-up-back : (r : LookUp) (amount price : ℕ) → lookUpOf (kindTold r) (amountTold r amount) (priceTold r price) ≡ r
+unfolding kindTold amountTold priceTold
+look-up-back (Priced a p) amount price = refl
+look-up-back (Unpriced a) amount price = refl
+look-up-back (NotFound g at) amount price = refl
+
+pub look-ups-apart : (a b : LookUp) (amount price : ℕ) → valueOf (kindTold a) < 2 ^ 32 → valueOf (kindTold b) < 2 ^ 32 → lookedUp a amount price ≡ lookedUp b amount price → a ≡ b
+unfolding lookedUp
+look-ups-apart a b amount price h k e =
+    let number = told-apart (kindTold a) (kindTold b) h k (ap (λ (r : ℕ × (ℕ × ℕ)). r .0) e) in
+    let one = ap (λ (r : ℕ × (ℕ × ℕ)). r .1 .0) e in
+    let other = ap (λ (r : ℕ × (ℕ × ℕ)). r .1 .1) e in
+    sym (look-up-back a amount price) ∙ rw (number, one, other) (look-up-back b amount price)
 
 -- total's value may be larger; its place is not
 pub total-place : (key s : List ℕ) → placeOf (totalChecks key s) < 2 ^ 32
