@@ -1,4 +1,4 @@
--- The bench sheet's cases that are proved, P1 to P11 and the limits of the checks, and rows of the cards, as rows of one table (document 01, "Bench sheet"; document 02, cards 1, 2 and 4 to 7). Assumes nothing.
+-- The bench sheet's cases that are proved, P1 to P11 and the limits of the checks, and rows of the cards, as rows of one table (document 01, "Bench sheet"; document 02, cards 1, 2 and 4 to 8). Assumes nothing.
 use mathlib.Core.Path.{_≡_}
 use mathlib.Core.Bool.{cond}
 use mathlib.Core.List.{List, [], _∷_, _++_, map}
@@ -29,8 +29,10 @@ use Rattle.walking.specs.Walking.{walkChecks, jumpChecks}
 use Rattle.cells.specs.Cells.{isLength, free, cellNamed, cellBefore}
 use Rattle.cells.specs.Changes.{fresh, filled, emptied}
 use Rattle.sales.specs.declared.Sale.{Sale}
-use Rattle.sales.specs.Sale.{cashOf}
-use Rattle.store.specs.Store.{formatChecks, takeChecks, cancelChecks, totalChecks, readChecks, formatCall, takeCall, cancelCall, totalCall, readPart, readRefusal, readOffset}
+use Rattle.sales.specs.Sale.{Detail, StoredSale, storedAs, saleIn, cashOf}
+use Rattle.sales.specs.Sale.Detail.{clock, listed}
+use Rattle.store.specs.Store.{formatChecks, takeChecks, cancelChecks, totalChecks, readChecks, formatCall, takeCall, cancelCall, totalCall, readPart, readRefusal, readOffset, lookUpCall, kindTold, amountTold, priceTold}
+use Rattle.store.specs.declared.LookUp.{LookUp}
 
 -- a case: what the definitions give, and what it must be
 pub record Row : Type 0 where
@@ -140,9 +142,9 @@ openedByRun mode parcel =
     let r = openRunCall mode 4 sampleKey sampleNonce (sampleHeader 5) parcel (nines 4) (zeros 21) in
     answered (r .0, r .1 .0)
 
--- a sale of 150 cents
+-- a sale of 150 cents, listed at 148, on day 291
 unfoldable pub paid : ℕ → Sale
-paid means = record { machine = 7; sale = 1; tail = zeros 8; amount = 150; column = 4; means = means; clock = zeros 6 }
+paid means = record { machine = 7; sale = 1; tail = zeros 8; amount = 150; column = 4; means = means; price = 148; day = 291 }
 
 -- 61 bytes that begin with a machine and a sale number
 unfoldable pub bodyNamed : ℕ → ℕ → List ℕ
@@ -164,12 +166,31 @@ brokenBy s = finds (readChecks 7 1 s)
 unfoldable pub soldBody : List ℕ
 soldBody =
     7 ∷ 0 ∷ 0 ∷ 0 ∷ 1 ∷ (zeros 11
+    ++ (0x94 ∷ 0xd0 ∷ 0x1c ∷ 0x0f ∷ 0x3f ∷ 0x02 ∷ 0x13 ∷ 0x16 ∷ 0xe1 ∷ 0xc8 ∷ 0x7e ∷ 0x0b ∷ 0x95
+    ∷ tagWords 0xfe9b28cc40abe1b8 0x36b85e04e4177b31 0x739471c2fd0fc0e7 0x710d3d2fcf82c6d5))
+
+-- the same with zeros in the place of price and day, as the unit of cards 4 to 7 sealed it with a clock of zeros; no passage of documents 01 and 02
+unfoldable pub zeroBody : List ℕ
+zeroBody =
+    7 ∷ 0 ∷ 0 ∷ 0 ∷ 1 ∷ (zeros 11
     ++ (0xb1 ∷ 0x69 ∷ 0x2e ∷ 0x62 ∷ 0x40 ∷ 0x70 ∷ 0xb2 ∷ 0xb2 ∷ 0x69 ∷ 0xfa ∷ 0xf0 ∷ 0x9c ∷ 0xae
     ∷ tagWords 0x97ee3b7cf3049f21 0x52e9c6a734e9815f 0xac3e9f2dd5c7620b 0x83fc528bec786a11))
 
--- a store of two cells that holds it: no cell is free
-unfoldable pub soldStore : List ℕ
-soldStore = 1 ∷ (zeros 63 ++ (0 ∷ 0 ∷ 1 ∷ soldBody))
+-- a store of two cells that holds these 61 bytes in a cell of this kind: no cell is free
+unfoldable pub storeOf : ℕ → List ℕ → List ℕ
+storeOf kind body = 1 ∷ (zeros 63 ++ (0 ∷ 0 ∷ kind ∷ body))
+
+-- what a look-up answers and leaves in the two variables, which held 9
+unfoldable pub looked : LookUp → List ℕ
+looked r = answered (kindTold r, amountTold r 9 ∷ priceTold r 9 ∷ [])
+
+-- the fields of a sale: its numbers, the tail, amount, column, means; then 1 and the clock, or 2, price and day
+abbrev pub detailFields : Detail → List ℕ
+detailFields (clock bytes) = 1 ∷ bytes
+detailFields (listed price day) = 2 ∷ price ∷ day ∷ []
+
+unfoldable pub fields : StoredSale → List ℕ
+fields x = x .machine ∷ x .sale ∷ (x .tail ++ (x .amount ∷ x .column ∷ x .means ∷ detailFields (x .detail)))
 
 -- the bench sheet in its order, P10 and P11 over the section 4 start; then the table's other grounds, and rows of the cards, card by card. Sealed bytes that no document has
 -- are as two implementations outside the proofs, in C and in Rust, compute them
@@ -239,15 +260,15 @@ table =
           let s = filled (bodyNamed 7 3) (twoSales 5) in
           emptied (cellBefore 7 2 s) (cellNamed 7 2 s) s;
       want = 3 ∷ 0 ∷ 2 ∷ (zeros 61
-          ++ ((0 ∷ 0 ∷ 1 ∷ bodyNamed 7 1)
+          ++ ((0 ∷ 0 ∷ 2 ∷ bodyNamed 7 1)
           ++ ((4 ∷ zeros 63)
-          ++ ((1 ∷ 0 ∷ 1 ∷ bodyNamed 7 3)
+          ++ ((1 ∷ 0 ∷ 2 ∷ bodyNamed 7 3)
           ++ zeros 64))));
     }  -- three taken and the middle one cancelled: its cell is first among the free
-    ∷ record { got = answered (takeCall sampleKey (paid 1) (fresh 2)); want = 0 ∷ 1 ∷ soldStore }  -- a whole take, total and cancel
-    ∷ record { got = answered (totalCall sampleKey soldStore, []); want = 0 ∷ 150 ∷ [] }
-    ∷ record { got = answered (cancelCall sampleKey 7 1 soldStore); want = 0 ∷ 150 ∷ fresh 2 }
-    ∷ record { got = cashOf (paid 1) ∷ cashOf (paid 2) ∷ []; want = 150 ∷ 0 ∷ [] }  -- means 1 counts, means 2 does not
+    ∷ record { got = answered (takeCall sampleKey (paid 1) (fresh 2)); want = 0 ∷ 1 ∷ storeOf 2 soldBody }  -- a whole take, total and cancel
+    ∷ record { got = answered (totalCall sampleKey (storeOf 2 soldBody), []); want = 0 ∷ 150 ∷ [] }
+    ∷ record { got = answered (cancelCall sampleKey 7 1 (storeOf 2 soldBody)); want = 0 ∷ 150 ∷ fresh 2 }
+    ∷ record { got = cashOf (storedAs (paid 1)) ∷ cashOf (storedAs (paid 2)) ∷ []; want = 150 ∷ 0 ∷ [] }  -- means 1 counts, means 2 does not
     -- ---- card 2: rounds
     ∷ record { got = finds (sealChecks 1 8 32 16 0 0 32); want = 0 ∷ 0 ∷ [] }  -- 8 and 12 pass, 10 does not
     ∷ record { got = finds (openChecks 2 12 32 16 0 32 0); want = 0 ∷ 0 ∷ [] }
@@ -330,8 +351,8 @@ table =
     ∷ record { got = brokenBy (set (set (fresh 3) 66 1) 128 3); want = 19 ∷ 2 ∷ [] }  -- an index before a kind of a cell below,
     ∷ record { got = brokenBy (set (set (oneSold 3) 66 0) 128 3); want = 19 ∷ 2 ∷ [] }  -- and of the free before a kind of the sales
     ∷ record { got = brokenBy (set (fresh 3) 130 1); want = 20 ∷ 2 ∷ [] }  -- kind 1 among the free,
-    ∷ record { got = brokenBy (set (oneSold 3) 66 0); want = 20 ∷ 1 ∷ [] }  -- 0 and 2 among the sales
-    ∷ record { got = brokenBy (set (oneSold 3) 66 2); want = 20 ∷ 1 ∷ [] }
+    ∷ record { got = brokenBy (set (oneSold 3) 66 0); want = 20 ∷ 1 ∷ [] }  -- 0 and 3 among the sales
+    ∷ record { got = brokenBy (set (oneSold 3) 66 3); want = 20 ∷ 1 ∷ [] }
     ∷ record { got = brokenBy (set (fresh 4) 64 0); want = 20 ∷ 2 ∷ [] }  -- cells in neither chain: the first of two
     ∷ record { got = brokenBy (set (set (fresh 4) 64 3) 194 1); want = 20 ∷ 2 ∷ [] }  -- a missing cell before a kind above it,
     ∷ record { got = brokenBy (set (set (fresh 4) 64 3) 66 1); want = 20 ∷ 1 ∷ [] }  -- a kind before a missing cell above it
@@ -342,6 +363,21 @@ table =
     ∷ record { got = finds (takeChecks (zeros 32) (paid 1) (set (oneSold 2) 64 2)); want = 19 ∷ 1 ∷ [] }  -- 19 before 16 and 15,
     ∷ record { got = finds (totalChecks sampleKey (set (twoSales 3) 66 0)); want = 20 ∷ 1 ∷ [] }  -- 20 before 9
     ∷ record { got = answered (cancelCall (zeros 32) 7 1 (set (oneSold 3) 64 3)); want = 19 ∷ 1 ∷ set (oneSold 3) 64 3 }  -- a call that would write: the answer and the store, unchanged
+    -- ---- card 8: price shown and amount taken
+    ∷ record { got = brokenBy (set (twoSales 4) 66 1); want = 0 ∷ 0 ∷ [] }  -- kinds 1 and 2 among the sales,
+    ∷ record { got = brokenBy (set (fresh 3) 130 2); want = 20 ∷ 2 ∷ [] }  -- 2 among the free
+    ∷ record { got = fields (storedAs (paid 1)); want = 7 ∷ 1 ∷ (zeros 8 ++ (150 ∷ 4 ∷ 1 ∷ 2 ∷ 148 ∷ 291 ∷ [])) }  -- a new sale, and what its 61 bytes say by the kind of their cell, 2 and 1
+    ∷ record { got = fields (saleIn sampleKey 2 soldBody); want = 7 ∷ 1 ∷ (zeros 8 ++ (150 ∷ 4 ∷ 1 ∷ 2 ∷ 148 ∷ 291 ∷ [])) }
+    ∷ record { got = fields (saleIn sampleKey 1 soldBody); want = 7 ∷ 1 ∷ (zeros 8 ++ (150 ∷ 4 ∷ 1 ∷ 1 ∷ 148 ∷ 0 ∷ 0 ∷ 0 ∷ 35 ∷ 1 ∷ [])) }
+    ∷ record { got = looked (lookUpCall sampleKey 7 1 (storeOf 2 soldBody)); want = 0 ∷ 2 ∷ 150 ∷ 148 ∷ [] }  -- amount and price,
+    ∷ record { got = looked (lookUpCall sampleKey 7 1 (storeOf 2 zeroBody)); want = 0 ∷ 2 ∷ 150 ∷ 0 ∷ [] }  -- price 0,
+    ∷ record { got = looked (lookUpCall sampleKey 7 1 (storeOf 1 zeroBody)); want = 0 ∷ 1 ∷ 150 ∷ 9 ∷ [] }  -- and no price, for the same 61 bytes in a cell of kind 1:
+    ∷ record { got = answered (totalCall sampleKey (storeOf 1 zeroBody), []); want = 0 ∷ 150 ∷ [] }  -- the kind byte is not sealed, and amount and total do not depend on it
+    ∷ record { got = answered (cancelCall sampleKey 7 1 (storeOf 1 soldBody)); want = 0 ∷ 150 ∷ fresh 2 }
+    ∷ record { got = looked (lookUpCall (zeros 31) 7 3 (zeros 64)); want = 3 ∷ 0 ∷ 9 ∷ 9 ∷ [] }  -- refused as cancel is: 3,
+    ∷ record { got = looked (lookUpCall (zeros 32) 7 3 (set (twoSales 3) 66 3)); want = 20 ∷ 1 ∷ 9 ∷ 9 ∷ [] }  -- 20 before 16,
+    ∷ record { got = looked (lookUpCall (zeros 32) 7 3 (twoSales 3)); want = 16 ∷ 0 ∷ 9 ∷ 9 ∷ [] }
+    ∷ record { got = looked (lookUpCall sampleKey 7 1 (twoSales 3)); want = 9 ∷ 1 ∷ 9 ∷ 9 ∷ [] }  -- and 9 with its cell
     ∷ []
 
 -- row i of the table
