@@ -359,7 +359,7 @@ static uint64_t found(void)
     return by_sale(offset, offset);
 }
 
-/* So is a wrong amount or price. */
+/* A wrong amount or price is a wrong answer. */
 static uint64_t store_look_up(void)
 {
     uint32_t amount = NO_CENTS, price = NO_CENTS;

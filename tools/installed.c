@@ -30,7 +30,7 @@ static const uint8_t parcels[][2][PARCEL] = {
       0x23, 0x84, 0x63, 0x3d, 0x62, 0xdf, 0x96, 0x26, 0xae, 0x79, 0x29, 0xfa}},
 };
 
-/* The sales below: nonce, sealed record and tag, as versions before 0.8.0 stored the first, and the second. */
+/* Nonce, sealed record and tag of the sales below. Versions before 0.8.0 stored the first so. */
 static const uint8_t sale_parts[][CALMBAIZE_SALE_BYTES] = {
     {0x07, 0x00, 0x00, 0x00, 0x01, 0x00, 0x00, 0x00, 0x00, 0x01, 0x02, 0x03, 0x04,
      0x05, 0x06, 0x07, 0x2c, 0xf5, 0xa4, 0xc2, 0x55, 0xad, 0xab, 0x80, 0x73, 0x9b,
@@ -101,7 +101,7 @@ static int stored(size_t sale, uint32_t kind)
            memcmp(cell + PART_AT, sale_parts[sale - 1], CALMBAIZE_SALE_BYTES) == 0;
 }
 
-/* It is taken, of the new kind. Where its price and day have a clock's bytes, only the kind is another. */
+/* It is taken, of the new kind. Where price and day have a clock's bytes, nothing else is new. */
 static int taken(size_t sale)
 {
     now.sale = sale;
@@ -127,6 +127,19 @@ static int told(size_t sale, uint32_t price)
     return answers("store_read") && answers("store_look_up");
 }
 
+/* The kind is not sealed: where it is changed, a clock is told as a price, and the total is as it was. */
+static int clock_told_as_price(size_t sale)
+{
+    uint8_t *kind = store + CELL * sale + KIND_AT;
+    int hold;
+
+    *kind = CALMBAIZE_KIND_PRICED;
+    now.price = secrets.records[sale].price;
+    hold = find("store_look_up")->make() == CALMBAIZE_KIND_PRICED && answers("store_total");
+    *kind = CALMBAIZE_KIND_UNPRICED;
+    return hold;
+}
+
 /* It is cancelled, and the coins of the others come to this. */
 static int cancelled(size_t sale, uint64_t total)
 {
@@ -135,7 +148,7 @@ static int cancelled(size_t sale, uint64_t total)
     return answers("store_cancel") && answers("store_total");
 }
 
-/* Two sales in coins from column 3, under one key. The first has a clock of the bytes 0 to 5, or price and day. */
+/* Two sales in coins from column 3, under one key. In the first, price and day have the clock's bytes, 0 to 5. */
 static int stored_as_stated(void)
 {
     struct record *first = &secrets.records[1], *second = &secrets.records[2];
@@ -143,17 +156,18 @@ static int stored_as_stated(void)
 
     usual();
     now.store_len = 3 * CELL;
-    *first = (struct record){150, 3, CALMBAIZE_MEANS_COIN, 0x03020100, 0x0504};
-    *second = (struct record){200, 3, CALMBAIZE_MEANS_COIN, 198, 20045};
-    hold = answers("store_format") && taken(1);
-    hold = answers("store_format") && hold;
+    *first = (struct record){
+        .amount = 150, .column = 3, .means = CALMBAIZE_MEANS_COIN, .price = 0x03020100, .day = 0x0504};
+    *second = (struct record){
+        .amount = 200, .column = 3, .means = CALMBAIZE_MEANS_COIN, .price = 198, .day = 20045};
+    hold = answers("store_format") && taken(1) && answers("store_format");
     put_older_sale();
     now.sales = 1;
     hold = hold && taken(2) && stored(1, CALMBAIZE_KIND_UNPRICED);
     now.sales = 2;
     now.total = first->amount + second->amount;
-    hold = hold && answers("store_total") && told(1, NO_CENTS) && told(2, second->price);
-    return hold && cancelled(1, second->amount) && cancelled(2, 0);
+    hold = hold && answers("store_total") && told(1, NO_CENTS) && clock_told_as_price(1);
+    return hold && told(2, second->price) && cancelled(1, second->amount) && cancelled(2, 0);
 }
 
 static unsigned long unexpected;
