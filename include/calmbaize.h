@@ -12,12 +12,14 @@
  *     comes without a length must be valid for what it is declared as. Words
  *     are aligned as uint64_t is.
  *   - Buffers must not overlap: no byte of the output, of the words, of the
- *     store or of the total may belong to another argument.
+ *     store, of the total, of the amount or of the price may belong to another
+ *     argument.
  *   - Nothing is kept between calls and nothing is allocated. Calls may run at
  *     the same time where nothing that one of them writes belongs to another.
  *   - An answer must be looked at: a refused call leaves the output as it was,
  *     or zero, the words as they were, or on 9 with the run in them, and the
- *     store and the total as they were. Compilers warn where one is dropped.
+ *     store, the total, the amount and the price as they were. Compilers warn
+ *     where one is dropped.
  *   - No branch and no address depends on the key, the nonce, the message, the
  *     parcel's content or its tag, on what the words hold, or on the start of a
  *     walk or jump, but for this: in calmbaize_convert(), whether the parcel
@@ -26,8 +28,9 @@
  *     calmbaize_convert() on the answer.
  *   - In the store, none depends on the key, on what a sale's record holds, or
  *     on its sealed bytes and tag, but for this: whether a sale opens, which the
- *     answer tells (checked on x86-64). Time depends on its length, indices,
- *     kinds and nonces, and on the numbers of the sale named.
+ *     answer tells (checked on x86-64). Its length, indices, kinds and nonces and
+ *     the numbers of the sale named are no secrets: branches and time depend on
+ *     them.
  */
 #ifndef CALMBAIZE_H
 #define CALMBAIZE_H
@@ -36,17 +39,19 @@
 #include <stdint.h>
 
 /* The version, as text and as one number that grows. */
-#define CALMBAIZE_VERSION "0.7.0"
+#define CALMBAIZE_VERSION "0.8.0"
 #define CALMBAIZE_VERSION_MAJOR 0
-#define CALMBAIZE_VERSION_MINOR 7
+#define CALMBAIZE_VERSION_MINOR 8
 #define CALMBAIZE_VERSION_PATCH 0
 #define CALMBAIZE_VERSION_NUMBER \
     (CALMBAIZE_VERSION_MAJOR * 1000000 + CALMBAIZE_VERSION_MINOR * 1000 + CALMBAIZE_VERSION_PATCH)
 
 /*
- * The format of parcels and of sealed sales. It goes up by one where
- * calmbaize_seal() or calmbaize_store_take() comes to write other bytes for the
- * same arguments. Another format is opened only by the calls that this list names.
+ * The format, which names the bytes of a parcel. It goes up by one where
+ * calmbaize_seal() comes to write other bytes for the same arguments. A sale's
+ * sealed record and tag are such a parcel, so they follow it; another layout of a
+ * store's cell or of a record leaves it as it is. Another format is opened only by
+ * the calls that this list names.
  *
  *   1   versions before 0.4.0. The masks start from nonce and key alone, the
  *       paper's section 4, the old start. calmbaize_open_old() opens its parcels,
@@ -54,6 +59,14 @@
  *       to open in a store: no call of the store uses that start.
  *   2   the round count and the tag's length in bits enter the start, as in
  *       section 8, the new start
+ *
+ * What the record in a store's cell is made of goes by the cell's kind. Sales of
+ * both kinds are of format 2 where version 0.4.0 or a later one stored them.
+ *
+ *   1   versions before 0.8.0. It has a clock and no price. It is still read, and
+ *       no call stores it any more.
+ *   2   from version 0.8.0 on. It has price and day. An older unit refuses a store
+ *       with such a cell: version 0.7.0 with 20, those before it with 14.
  */
 #define CALMBAIZE_FORMAT 2
 
@@ -130,7 +143,7 @@ extern "C" {
 #define CALMBAIZE_MEANS_COIN 1U
 #define CALMBAIZE_MEANS_CARD 2U
 
-/* Kinds of a sale: with a clock and no price, as versions before 0.8.0 stored them; with price and day. */
+/* Kinds of a sale: with a clock and no price; with price and day. */
 #define CALMBAIZE_KIND_UNPRICED 1U
 #define CALMBAIZE_KIND_PRICED 2U
 
@@ -169,9 +182,10 @@ static inline uint32_t calmbaize_refusal(uint64_t answer)
 /*
  * Where the ground of a refusal lies: the step's place in the list for
  * CALMBAIZE_REFUSED_STEP; the sale's cell for CALMBAIZE_REFUSED_TAG of
- * calmbaize_store_cancel() and calmbaize_store_total(); the cell that holds the
- * index, which may be cell 0, for CALMBAIZE_REFUSED_STORE_INDEX; the cell itself
- * for CALMBAIZE_REFUSED_STORE_KIND; else 0.
+ * calmbaize_store_cancel(), calmbaize_store_total() and calmbaize_store_look_up();
+ * the cell that holds the index, which may be cell 0, for
+ * CALMBAIZE_REFUSED_STORE_INDEX; the cell itself for CALMBAIZE_REFUSED_STORE_KIND;
+ * else 0.
  */
 static inline uint32_t calmbaize_place(uint64_t answer)
 {
@@ -363,13 +377,20 @@ uint64_t calmbaize_jump(const uint8_t *start, size_t start_len,
  *   cell 0     bytes 0, 1: the first sale's cell; bytes 2, 3: the first free
  *              cell; then zeros
  *   the others bytes 0, 1: the next cell in its chain, where 0 ends it; byte 2:
- *              the kind, 0 free or 1 sale; then 61 bytes, zero where free:
- *              nonce (16), sealed record (13), tag (32)
+ *              the kind, 0 free, 1 sale with a clock or 2 sale with price and
+ *              day; then 61 bytes, zero where free: nonce (16), sealed record
+ *              (13), tag (32)
  *
  * The nonce is the machine number (4), the sale number (4) and a tail (8) that
- * the caller chooses. The record is the amount in cents (4), column (2), means
- * (1) and clock (6). Sealed record and tag are the parcel that calmbaize_seal()
- * writes for it under MRO with six rounds and an empty header.
+ * the caller chooses. The record is the amount in cents (4), column (2) and means
+ * (1); then, in a sale of kind 1, the clock (6), and in one of kind 2 the listed
+ * price in cents (4) and the day number (2). Sealed record and tag are the parcel
+ * that calmbaize_seal() writes for it under MRO with six rounds and an empty
+ * header.
+ *
+ * The kind is not sealed. Where it is changed in the store's memory from 1 to 2,
+ * a clock becomes price and day, and where from 2 to 1, a price is lost: no tag
+ * tells. Amounts, means and the total do not depend on it.
  *
  * Every call but format checks the store's form, in this order:
  *
@@ -380,7 +401,7 @@ uint64_t calmbaize_jump(const uint8_t *start, size_t start_len,
  *        two: the first sale's is meant where it is past the last cell, else the
  *        first free cell's.
  *   20   where both walks end, the cells in their order from cell 1 on: each is
- *        in a chain, with kind 1 among sales and kind 0 among free cells. The
+ *        in a chain, with kind 1 or 2 among sales and kind 0 among free cells. The
  *        place is the first cell that is not.
  *
  * What a free cell holds behind its kind, and cell 0 behind its two indices, is
@@ -402,7 +423,9 @@ CALMBAIZE_NODISCARD
 uint64_t calmbaize_store_format(uint8_t *store, size_t store_len);
 
 /*
- * Seals a sale into the first free cell and puts it first among the sales.
+ * Seals a sale of kind 2 into the first free cell and puts it first among the
+ * sales. The amount is what was taken and the price what was shown; neither is
+ * held against the other.
  *
  * Success writes that cell and the two indices of cell 0, and answers the cell.
  * The rest of the store is unchanged. Where numbers come again, after a
@@ -421,12 +444,12 @@ uint64_t calmbaize_store_take(const uint8_t *key, size_t key_len,
                               uint32_t price, uint16_t day);
 
 /*
- * Opens a sale, takes it out of the chain of sales and puts its cell first among
- * the free ones.
+ * Opens a sale of either kind, takes it out of the chain of sales and puts its
+ * cell first among the free ones.
  *
  * Success zeroes the cell behind its next index, writes that index, the index
- * that led to the sale and the first free cell, and answers the amount. The rest
- * of the store is unchanged.
+ * that led to the sale and the first free cell, and answers the amount, never the
+ * price. The rest of the store is unchanged.
  *
  * Refused, in this order, with 3, 18, 19, 20, 16 where no sale has these numbers,
  * and 9 where it does not open, with its cell as the place; then no byte changes.
@@ -437,7 +460,8 @@ uint64_t calmbaize_store_cancel(const uint8_t *key, size_t key_len,
                                 uint32_t machine, uint32_t sale);
 
 /*
- * Opens every sale and adds up the amounts of those whose means is coin.
+ * Opens every sale, of both kinds, and adds up the amounts of those whose means is
+ * coin.
  *
  * Success writes the sum, which may pass 2^32, to the total and answers 0. The
  * store is unchanged.
@@ -467,9 +491,10 @@ uint64_t calmbaize_store_read(const uint8_t *store, size_t store_len,
 /*
  * Opens a sale and tells its amount and its listed price, for a refund.
  *
- * Success answers the sale's kind. CALMBAIZE_KIND_PRICED: amount and price are
- * written. CALMBAIZE_KIND_UNPRICED: the sale has no price; the amount is written,
- * and the price is unchanged. The store is unchanged.
+ * Success answers the sale's kind. Where that is CALMBAIZE_KIND_PRICED, the amount
+ * and the price are written, which may be 0; where it is CALMBAIZE_KIND_UNPRICED,
+ * there is no price: the amount is written, and the price is unchanged. The store
+ * is unchanged.
  *
  * Refused as calmbaize_store_cancel() is; then amount and price are unchanged.
  */

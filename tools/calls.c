@@ -46,7 +46,9 @@ void usual(void)
                              .start_len = BLOCK,
                              .store_len = 2 * CELL,
                              .sale = 1,
-                             .total = UINT64_MAX};
+                             .total = NO_TOTAL,
+                             .amount = NO_CENTS,
+                             .price = NO_CENTS};
 }
 
 /* Sales next to each other have means 0 to 3 in turn: coin, card and others. */
@@ -259,6 +261,12 @@ static uint8_t *part_of(size_t sale)
     return store + CELL * (sale + 1) - SEALED;
 }
 
+/* Every other sale is as an older unit stored it. */
+static uint32_t kind_of(size_t sale)
+{
+    return sale % 2 ? CALMBAIZE_KIND_UNPRICED : CALMBAIZE_KIND_PRICED;
+}
+
 static size_t last_cell(void)
 {
     return now.store_len / CELL - 1;
@@ -289,7 +297,7 @@ static uint64_t store_take(void)
     const struct record *record = record_of(now.sale);
 
     return calmbaize_store_take(KEY, STORE, SALE, tail, record->amount, record->column,
-                                record->means, record->clock);
+                                record->means, record->price, record->day);
 }
 
 static uint64_t taken(void)
@@ -319,7 +327,7 @@ static unsigned sale_opened(void)
 /* A wrong total is a wrong answer. */
 static uint64_t store_total(void)
 {
-    uint64_t total = UINT64_MAX, answer = calmbaize_store_total(KEY, STORE, &total);
+    uint64_t total = NO_TOTAL, answer = calmbaize_store_total(KEY, STORE, &total);
 
     return answer ^ total ^ now.total;
 }
@@ -346,9 +354,23 @@ static uint64_t store_read(void)
 
 static uint64_t found(void)
 {
-    uint64_t offset = CELL * now.sale + 3;
+    uint64_t offset = CELL * now.sale + PART_AT;
 
     return by_sale(offset, offset);
+}
+
+/* A wrong amount or price is a wrong answer. */
+static uint64_t store_look_up(void)
+{
+    uint32_t amount = NO_CENTS, price = NO_CENTS;
+    uint64_t answer = calmbaize_store_look_up(KEY, STORE, SALE, &amount, &price);
+
+    return answer ^ (amount ^ now.amount) ^ (uint64_t)(price ^ now.price) << 32;
+}
+
+static uint64_t looked_up(void)
+{
+    return by_sale(kind_of(now.sale), refused(CALMBAIZE_REFUSED_TAG, now.sale));
 }
 
 static void with_blanks(const struct plan *plan, void (*visit)(void))
@@ -402,7 +424,7 @@ static void with_sales(const struct plan *plan, void (*visit)(void))
         }
 }
 
-/* Takes what is missing in the store that is kept. */
+/* Takes what is missing in the store that is kept. No call makes the older kind, so it is written there. */
 static void seal_sales(void)
 {
     struct arguments wanted = now;
@@ -414,8 +436,11 @@ static void seal_sales(void)
         memcpy(kept, store, wanted.store_len);
     }
     memcpy(store, kept, wanted.store_len);
-    for (now.sale = kept_sales + 1; now.sale <= wanted.sales; now.sale++)
+    for (now.sale = kept_sales + 1; now.sale <= wanted.sales; now.sale++) {
         kept_sales += store_take() == now.sale;
+        if (kind_of(now.sale) == CALMBAIZE_KIND_UNPRICED)
+            store[CELL * now.sale + KIND_AT] = CALMBAIZE_KIND_UNPRICED;
+    }
     memcpy(kept, store, wanted.store_len);
     now.sale = wanted.sale;
     if (wanted.sale <= wanted.sales)
@@ -430,17 +455,20 @@ static void break_store(void)
     if (now.broken == CALMBAIZE_REFUSED_STORE_INDEX)
         cell[0] = cell[1] = 0xff;
     if (now.broken == CALMBAIZE_REFUSED_STORE_KIND)
-        cell[2] = 0xff;
+        cell[KIND_AT] = CALMBAIZE_KIND_PRICED + 1;
 }
 
 static void choose_sale(void)
 {
-    uint64_t coins = 0;
+    const struct record *record = record_of(now.sale);
+    uint64_t coins = 0, kind = looked_up();
 
     for (size_t sale = 1; sale <= now.sales; sale++)
         coins += record_of(sale)->amount &
                  -(uint64_t)(record_of(sale)->means == CALMBAIZE_MEANS_COIN);
-    now.total = now.changed || now.broken ? UINT64_MAX : coins;
+    now.total = now.changed || now.broken ? NO_TOTAL : coins;
+    now.amount = kind > UINT32_MAX ? NO_CENTS : record->amount;
+    now.price = kind == CALMBAIZE_KIND_PRICED ? record->price : NO_CENTS;
     memcpy(store, kept, now.store_len);
     break_store();
     if (now.sealed_len > 0)
@@ -468,6 +496,7 @@ const struct call calls[] = {
     {"store_cancel", STACK(STORE_CANCEL), &sales, store_cancel, cancelled, sale_opened, TRACED},
     {"store_total", STACK(STORE_TOTAL), &sales, store_total, added_up, sales_opened, TRACED},
     {"store_read", STACK(STORE_READ), &sales, store_read, found, NULL, NOT_TRACED},
+    {"store_look_up", STACK(STORE_LOOK_UP), &sales, store_look_up, looked_up, sale_opened, TRACED},
 };
 const size_t call_count = COUNT(calls);
 

@@ -16,14 +16,22 @@ static const uint32_t round_counts[] = {4, 6, 8, 12};
 enum { TAG = CALMBAIZE_TAG_BYTES, BLOCK = CALMBAIZE_BLOCK_BYTES, CELL = CALMBAIZE_CELL_BYTES };
 /* The one machine, and for how many sales there are records; a sale has the record at its remainder. */
 enum { MACHINE = 7, RECORDS = 8 };
+/* Where a cell has its kind, and behind it the part that calmbaize_store_read() finds. */
+enum { KIND_AT = 2, PART_AT = 3 };
+/* What is in a total, an amount and a price before a call. */
+#define NO_TOTAL UINT64_MAX
+#define NO_CENTS UINT32_MAX
 
 /* What is secret. Each buffer has room for one more than is allowed. */
 extern struct secrets {
     uint8_t key[CALMBAIZE_KEY_BYTES + 1], nonce[CALMBAIZE_NONCE_BYTES + 1], start[BLOCK + 1];
+    /* Of a sale without a price, price and day have the bytes of the clock. */
     struct record {
         uint32_t amount;
         uint16_t column;
-        uint8_t means, clock[CALMBAIZE_CLOCK_BYTES + 1];
+        uint8_t means;
+        uint32_t price;
+        uint16_t day;
     } records[RECORDS];
     uint8_t message[CALMBAIZE_MESSAGE_BYTES_MAX + 1], parcel[CALMBAIZE_SEALED_BYTES_MAX + 1];
     uint64_t words[CALMBAIZE_RUN_WORDS_MAX + 1];
@@ -46,6 +54,8 @@ extern struct arguments {
     uint32_t broken;
     /* What store_total leaves: what the coins come to, or where it is refused what was there. */
     uint64_t total;
+    /* What store_look_up leaves: the sale's, or where it is refused or there is no price what was there. */
+    uint32_t amount, price;
     /* The parcel, or the sale named, is so long; is of the old start; has these bits changed there. */
     size_t sealed_len, place;
     unsigned old;

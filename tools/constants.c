@@ -1,7 +1,7 @@
 /*
  * Holds the constants of calmbaize.h against the archive: each refusal is provoked, each length and
- * limit passes where the next one is refused, and each mode, step byte and means does what its name
- * says.
+ * limit passes where the next one is refused, and each mode, step byte, means and kind does what its
+ * name says.
  *
  * Prints a line for each constant: "held" or "failed", and its name.
  */
@@ -161,14 +161,14 @@ static int sale_part(void)
            memcmp(store + offset, numbers, sizeof numbers) == 0;
 }
 
-/* The sale's bytes are others where the last of the buffer's len bytes is, and not where one behind is. */
-static int reads_just(uint8_t *buffer, size_t len)
+/* The sale's bytes are others where the last of the tail's len bytes is, and not where one behind is. */
+static int tail_is(size_t len)
 {
     uint8_t taken[3][2 * CELL];
 
     for (int i = 0; i < 3; i++) {
-        buffer[len - 1] ^= i == 1;
-        buffer[len] ^= i == 2;
+        tail[len - 1] ^= i == 1;
+        tail[len] ^= i == 2;
         if (!formatted(2) || !passes(of_sale("store_take", 1)))
             return 0;
         memcpy(taken[i], store, sizeof taken[i]);
@@ -188,8 +188,7 @@ static void store_lengths(void)
          is_length(CALMBAIZE_STORE_BYTES_MAX) &&
              no_length_between(CALMBAIZE_STORE_BYTES_MAX, CALMBAIZE_STORE_BYTES_MAX + CELL + 1));
     HOLD(CALMBAIZE_SALE_BYTES, sale_part());
-    HOLD(CALMBAIZE_NONCE_TAIL_BYTES, reads_just(tail, CALMBAIZE_NONCE_TAIL_BYTES));
-    HOLD(CALMBAIZE_CLOCK_BYTES, reads_just(secrets.records[1].clock, CALMBAIZE_CLOCK_BYTES));
+    HOLD(CALMBAIZE_NONCE_TAIL_BYTES, tail_is(CALMBAIZE_NONCE_TAIL_BYTES));
 }
 
 /* A total of one sale of that means comes to the coins. */
@@ -208,6 +207,31 @@ static void means_of_payment(void)
     HOLD(CALMBAIZE_MEANS_COIN, total_is(CALMBAIZE_MEANS_COIN, 150, 150));
     /* The archive tells it from no other means that is not coin. */
     HOLD(CALMBAIZE_MEANS_CARD, total_is(CALMBAIZE_MEANS_CARD, 150, 0) && CALMBAIZE_MEANS_CARD == 2);
+}
+
+/* A sale of the price 0, taken and then changed to that kind, is looked up as one, with this price. */
+static int looked_up_as(uint32_t kind, uint32_t price)
+{
+    secrets.records[1].price = 0;
+    if (!formatted(2) || !passes(of_sale("store_take", 1)))
+        return 0;
+    store[CELL + KIND_AT] = (uint8_t)kind;
+    now.amount = secrets.records[1].amount;
+    now.price = price;
+    return make("store_look_up") == kind;
+}
+
+/* A new sale has that kind. */
+static int taken_as(uint32_t kind)
+{
+    return formatted(2) && passes(of_sale("store_take", 1)) && store[CELL + KIND_AT] == kind;
+}
+
+static void kinds_of_sales(void)
+{
+    HOLD(CALMBAIZE_KIND_UNPRICED, looked_up_as(CALMBAIZE_KIND_UNPRICED, NO_CENTS));
+    HOLD(CALMBAIZE_KIND_PRICED,
+         looked_up_as(CALMBAIZE_KIND_PRICED, 0) && taken_as(CALMBAIZE_KIND_PRICED));
 }
 
 static uint64_t jump(int32_t alpha, int32_t beta, int32_t gamma)
@@ -311,21 +335,23 @@ static int sale_refused_in(size_t cell)
     store[(cell + 1) * CELL - 1] ^= 1;
     cancelled = of_sale("store_cancel", cell);
     return calmbaize_refusal(cancelled) == CALMBAIZE_REFUSED_TAG &&
-           calmbaize_place(cancelled) == cell && make("store_total") == cancelled;
+           calmbaize_place(cancelled) == cell && make("store_total") == cancelled &&
+           make("store_look_up") == cancelled;
 }
 
-/* Four cells, three of them free, and one byte changed: every call is refused with the number and that place. */
+/* Four cells, the first a sale, and one byte changed: every call is refused with the number and that place. */
 static int broken(size_t cell, size_t byte, uint8_t value, uint32_t number, size_t place)
 {
     uint64_t read, taken;
 
-    if (!formatted(4))
+    if (!formatted(4) || !passes(of_sale("store_take", 1)))
         return 0;
     store[CELL * cell + byte] = value;
     read = of_sale("store_read", 1);
     taken = of_sale("store_take", 1);
     return calmbaize_refusal(read) == number && calmbaize_place(read) == place && taken == read &&
-           of_sale("store_cancel", 1) == read && make("store_total") == read;
+           of_sale("store_cancel", 1) == read && make("store_total") == read &&
+           make("store_look_up") == read;
 }
 
 /* What the call answers to that sale, in a store of so many cells where the first is taken. */
@@ -362,15 +388,20 @@ static void other_refusals(void)
     REFUSE(CALMBAIZE_REFUSED_SALE_NUMBERS, after_one(3, "store_take", 1));
     REFUSE(CALMBAIZE_REFUSED_SALE_NUMBERS, after_one(3, "store_cancel", 2));
     REFUSE(CALMBAIZE_REFUSED_SALE_NUMBERS, after_one(3, "store_read", 2));
+    REFUSE(CALMBAIZE_REFUSED_SALE_NUMBERS, after_one(3, "store_look_up", 2));
     REFUSE(CALMBAIZE_REFUSED_DONE_ALREADY, of_parcel("convert", 0));
     REFUSE(CALMBAIZE_REFUSED_STORE_LENGTH, with("store_format", &now.store_len, 0));
     REFUSE(CALMBAIZE_REFUSED_STORE_LENGTH, with("store_read", &now.store_len, 0));
     /* The first free index past the last cell, and cell 3 behind itself. */
     HOLD(CALMBAIZE_REFUSED_STORE_INDEX, broken(0, 2, 4, CALMBAIZE_REFUSED_STORE_INDEX, 0) &&
                                             broken(3, 0, 3, CALMBAIZE_REFUSED_STORE_INDEX, 3));
-    /* A sale among the free cells, and cell 3 in neither chain. */
-    HOLD(CALMBAIZE_REFUSED_STORE_KIND, broken(1, 2, 1, CALMBAIZE_REFUSED_STORE_KIND, 1) &&
-                                           broken(2, 0, 0, CALMBAIZE_REFUSED_STORE_KIND, 3));
+    /* Either kind of sale among the free cells, another kind among the sales, and cell 3 in neither chain. */
+    HOLD(CALMBAIZE_REFUSED_STORE_KIND,
+         broken(2, KIND_AT, 1, CALMBAIZE_REFUSED_STORE_KIND, 2) &&
+             broken(2, KIND_AT, 2, CALMBAIZE_REFUSED_STORE_KIND, 2) &&
+             broken(1, KIND_AT, 0, CALMBAIZE_REFUSED_STORE_KIND, 1) &&
+             broken(1, KIND_AT, 3, CALMBAIZE_REFUSED_STORE_KIND, 1) &&
+             broken(2, 0, 0, CALMBAIZE_REFUSED_STORE_KIND, 3));
 }
 
 int main(void)
@@ -384,6 +415,7 @@ int main(void)
     bounds_of_steps();
     modes_and_steps();
     means_of_payment();
+    kinds_of_sales();
     refusals_of_lengths_and_settings();
     other_refusals();
     return 0;

@@ -1,8 +1,8 @@
 /*
  * Makes every call with what is secret marked undefined: the key, the nonce, the message, the parcel
- * and its tag, what lent words hold, the start of a walk or jump; in the store the record of a sale, its
- * sealed bytes and its tag, and not indices, kinds and nonces. Under valgrind's memcheck every branch
- * and every address that depends on one of them is an error.
+ * and its tag, what lent words hold, the start of a walk or jump; in the store the record of a sale of
+ * either kind, its sealed bytes and its tag, and not indices, kinds and nonces. Under valgrind's memcheck
+ * every branch and every address that depends on one of them is an error.
  *
  * usage: secrets [VERDICT]
  *
