@@ -110,13 +110,13 @@ impl<'a> History<'a> {
         self.store.len() / CELL_LEN
     }
 
-    /// A call: `takes` of a hundred are take, ten read or look_up, and the others cancel. Now and then a
+    /// A call: `takes` of a hundred are take, five read, ten look_up, and the others cancel. Now and then a
     /// total, oftener the fewer cells there are.
     fn call(&mut self, takes: usize) {
         match self.prng.below(100) {
             0..5 => self.read(),
-            5..10 => self.look_up(),
-            n if n < 10 + takes => self.take(),
+            5..15 => self.look_up(),
+            n if n < 15 + takes => self.take(),
             _ => self.cancel(),
         }
         if self.prng.once_in(1 + self.cells() / 8) {
