@@ -61,7 +61,8 @@ macro_rules! grounds {
                 $name,
             )+
             /// A number that this version of the crate does not know, from an archive of another
-            /// version. What such a call wrote is not known either.
+            /// version, or 0 for a value of a success that it does not know. What such a call wrote
+            /// is not known either.
             #[non_exhaustive]
             Unknown {
                 /// That number.

@@ -77,7 +77,8 @@ impl From<Sale> for StoredSale {
 }
 
 /// Amount and listed price of a sale, as [`Store::look_up`](crate::Store::look_up) gives them. No
-/// price is another thing than a price of 0.
+/// price is another thing than a price of 0. Which of the two a sale has is told by its
+/// [kind](SealedSale::kind), which is not sealed.
 #[derive(Clone, Copy, Debug, PartialEq, Eq, Hash)]
 pub enum LookUp {
     /// Of a sale of [`KIND_PRICED`].

@@ -12,7 +12,7 @@ use crate::{Ground, Key, LookUp, Refusal, Sale, SealedSale, CELL_LEN, NONCE_TAIL
 /// Each cell but the first holds one sale: its kind and its machine and sale number in the clear, the
 /// rest sealed under MRO with six rounds. From any store that [`total`](Self::total) accepts on, until
 /// the next [`format`](Self::format), with that key and these calls only, the total is the first one
-/// and the coin amounts taken less those cancelled, whatever the kinds.
+/// plus the coin amounts taken less those cancelled, of both kinds.
 ///
 /// ```
 /// use calmbaize::{Key, Refusal, Sale, Store, CELL_LEN, MEANS_CARD, MEANS_COIN};

@@ -11,6 +11,10 @@ const OF_0_7_0: [&str; 3] = [
     "0100010b000000020000003132333435363738bc7dc0cdc218f3a1fde796abe5af010cb4787c3b3f232d7ea2eaf790d1c6ea4f71fdffea6d79f76cf5dbb23d79",
 ];
 
+/// The first four and the last two bytes of its first sale's clock, as numbers.
+const PRICE: u32 = 0x0201_07e8;
+const DAY: u16 = 0x0403;
+
 fn of_0_7_0(name: &str) -> Till {
     let till = Till::new(name);
     let digits = OF_0_7_0.concat();
@@ -121,11 +125,10 @@ fn a_store_of_version_0_7_0() {
 fn a_changed_kind_shows_a_clock_as_a_price() {
     let till = of_0_7_0("changed-kind");
     set_kind(&till, 1, 2);
-    let (price, day) = (0x0201_07e8, 0x0403);
     let text = till.keyed_text(&named("price", "1"));
-    assert_eq!(text, format!("amount 150 price {price}\n"));
+    assert_eq!(text, format!("amount 150 price {PRICE}\n"));
     let listed = till.keyed_text(&["list"]);
-    let fields = format!(" amount 150 column 4 means coin price {price} day {day}\n");
+    let fields = format!(" amount 150 column 4 means coin price {PRICE} day {DAY}\n");
     assert!(listed.ends_with(&fields), "{listed}");
     assert_eq!(till.keyed_text(&["total"]), "150\n");
     assert_eq!(till.keyed_text(&named("cancel", "1")), "150\n");
@@ -136,4 +139,34 @@ fn a_changed_kind_shows_a_clock_as_a_price() {
         let error = till.refuses(&till.keyed(&named("price", "1")), 20);
         assert!(error.contains(&format!("cell {cell} ")), "{error}");
     }
+}
+
+/// A price and a day with the bytes of a clock are sealed as that was: the kinds alone differ.
+#[test]
+fn sales_are_sealed_as_by_version_0_7_0() {
+    let till = Till::formatted("sealed-alike", 4);
+    let (price, day) = (PRICE.to_string(), DAY.to_string());
+    let first = [
+        "--amount=150",
+        "--column=4",
+        "--means=coin",
+        "--price",
+        &price,
+        "--day",
+        &day,
+    ];
+    let second = ["--amount=410", "--column=9", "--means=card", "--price=0"];
+    let tails = [
+        "--nonce-tail=2122232425262728",
+        "--nonce-tail=3132333435363738",
+    ];
+    till.keyed_text(&[&named("take", "1")[..], &first, &tails[..1]].concat());
+    till.keyed_text(&[&named("take", "2")[..], &second, &tails[1..]].concat());
+    set_kind(&till, 1, 1);
+    set_kind(&till, 2, 1);
+    let earlier = of_0_7_0("sealed-earlier");
+    assert_eq!(
+        fs::read(&till.file).unwrap(),
+        fs::read(&earlier.file).unwrap()
+    );
 }
