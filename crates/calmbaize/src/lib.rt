@@ -10,7 +10,7 @@ ghost use Rattle.run_sealing.specs.RunSealing.{sealRunCall, openRunCall};
 ghost use Rattle.converting.specs.Converting.{convertCall};
 ghost use Rattle.walking.specs.Walking.{walkCall, jumpCall};
 ghost use Rattle.store.specs.Store.{formatCall, takeCall, cancelCall, totalCall, readOffset, lookUpCall, lookedUp};
-ghost use Rattle.calmbaize.specs.Arguments.{saleOf};
+ghost use Rattle.sales.specs.Sale.{saleOf};
 
 // Seals a message: mode 1 is OPP, 2 is MRO; the output receives the ciphertext and then the tag.
 #[no_mangle]

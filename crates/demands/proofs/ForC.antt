@@ -7,7 +7,7 @@ use Rattle.converting.proofs.Answered.{convert-small}
 use Rattle.run_sealing.proofs.Answered.{seal-run-small, open-run-small}
 use Rattle.walking.proofs.Answered.{walk-small, jump-small}
 use Rattle.store.specs.Store.{totalCall}
-use Rattle.store.proofs.Small.{format-small, take-small, cancel-small, total-place, read-small, look-up-small, look-ups-apart}
+use Rattle.store.proofs.Small.{format-small, take-small, cancel-small, total-place, read-small, look-up-small, look-up-kind, look-ups-apart}
 use Rattle.demands.specs.ForC.{ForC}
 
 pub for-c : ForC
@@ -28,5 +28,6 @@ for-c = record {
   of-total = λ key s. taken-apart _ (shown-lt _ _ (total-place key s));
   of-read = λ machine sale s. taken-apart _ (read-small machine sale s);
   of-look-up = λ key machine sale s. taken-apart _ (look-up-small key machine sale s);
+  look-up-kind = look-up-kind;
   look-ups-apart = look-ups-apart;
 }

@@ -4,14 +4,16 @@ use mathlib.Core.List.{List}
 use Prim.Native.Nat.{ℕ, _/_, _%_, _^_, _<_}
 use lib.IntN.{ℤ}
 use Rattle.words.specs.Block.{Bytes}
-use Rattle.answers.specs.Answers.{numberOf, valueOf, codeOf, shown}
+use Rattle.answers.specs.Answers.{numberOf, valueOf, codeOf, judged, shown}
 use Rattle.answers.specs.declared.Answer.{Answer}
+use Rattle.answers.specs.declared.Answer.the-variants.{Done}
 use Rattle.sealing.specs.Sealing.{sealCall, openCall, openOldCall}
 use Rattle.converting.specs.Converting.{convertCall}
 use Rattle.run_sealing.specs.RunSealing.{sealRunCall, openRunCall}
 use Rattle.walking.specs.Walking.{walkCall, jumpCall}
 use Rattle.sales.specs.declared.Sale.{Sale}
-use Rattle.store.specs.Store.{formatCall, takeCall, cancelCall, totalCall, readOffset, lookUpCall, kindTold, lookedUp}
+use Rattle.cells.specs.Cells.{kindOf, cellNamed}
+use Rattle.store.specs.Store.{cancelChecks, formatCall, takeCall, cancelCall, totalCall, readOffset, lookUpCall, kindTold, lookedUp}
 use Rattle.store.specs.declared.LookUp.{LookUp}
 
 -- divided by 2^32 it is the refusal's number, 0 on success; the remainder is the value, or the place of the refusal
@@ -37,5 +39,7 @@ pub record ForC : Type 0 where
   pub of-total : (key s : List ℕ) → Decodes (shown (totalCall key s))
   pub of-read : (machine sale : ℕ) (s : List ℕ) → Decodes (readOffset machine sale s)
   pub of-look-up : (key : List ℕ) (machine sale : ℕ) (s : List ℕ) → Decodes (kindTold (lookUpCall key machine sale s))
-  -- and every two look-ups, by the number and the two variables, whatever these held before: so "a mark for no price" is "told apart from price 0" and from every other
+  -- where a look-up is not refused its value is the kind byte of the sale's cell
+  pub look-up-kind : (key : List ℕ) (machine sale : ℕ) (s : List ℕ) → kindTold (lookUpCall key machine sale s) ≡ judged (cancelChecks key machine sale s) (Done (kindOf s (cellNamed machine sale s)))
+  -- C can tell every two look-ups apart by the number and the two variables, whatever these held before: so "a mark for no price" is "told apart from price 0" and from every other
   pub look-ups-apart : (a b : LookUp) (amount price : ℕ) → valueOf (kindTold a) < 2 ^ 32 → valueOf (kindTold b) < 2 ^ 32 → lookedUp a amount price ≡ lookedUp b amount price → a ≡ b

@@ -33,6 +33,7 @@ use Rattle.sales.specs.Sale.{Detail, StoredSale, storedAs, saleIn, cashOf}
 use Rattle.sales.specs.Sale.Detail.{clock, listed}
 use Rattle.store.specs.Store.{formatChecks, takeChecks, cancelChecks, totalChecks, readChecks, formatCall, takeCall, cancelCall, totalCall, readPart, readRefusal, readOffset, lookUpCall, kindTold, amountTold, priceTold}
 use Rattle.store.specs.declared.LookUp.{LookUp}
+use Rattle.store.specs.declared.LookUp.the-variants.{Priced, Unpriced, Refused as NotFound}
 
 -- a case: what the definitions give, and what it must be
 pub record Row : Type 0 where
@@ -181,8 +182,14 @@ unfoldable pub storeOf : ℕ → List ℕ → List ℕ
 storeOf kind body = 1 ∷ (zeros 63 ++ (0 ∷ 0 ∷ kind ∷ body))
 
 -- what a look-up answers and leaves in the two variables, which held 9
-unfoldable pub looked : LookUp → List ℕ
-looked r = answered (kindTold r, amountTold r 9 ∷ priceTold r 9 ∷ [])
+unfoldable pub told : LookUp → List ℕ
+told r = answered (kindTold r, amountTold r 9 ∷ priceTold r 9 ∷ [])
+
+-- case by case, so that the look-up is computed once
+abbrev pub looked : LookUp → List ℕ
+looked (Priced amount price) = told (Priced amount price)
+looked (Unpriced amount) = told (Unpriced amount)
+looked (NotFound ground place) = told (NotFound ground place)
 
 -- the fields of a sale: its numbers, the tail, amount, column, means; then 1 and the clock, or 2, price and day
 abbrev pub detailFields : Detail → List ℕ

@@ -106,14 +106,14 @@ zero-kept key s b (call ∷ calls) e =
 
 -- ---- the promise
 
-module _ (key : List ℕ) (calls : List Call) (k : length key ≡ 32) (bytes : Bytes key) (w : AllFit calls) where
+module _ (key : List ℕ) (calls : List Call) (bytes : Bytes key) (w : AllFit calls) where
   accepted : (s : List ℕ) (first : ℕ) → totalCall key s ≡ Done first → Agrees key (storeAfter key calls s) (kept key calls s (newBook first (salesIn key s)))
   accepted s first e =
       let h = total-accepts key s first e in
-      agrees key (storeAfter key calls s) _ k (kept-after key bytes calls w s (newBook first (salesIn key s)) (kept-new key s first (salesIn key s) (h .0) refl (h .1)))
+      agrees key (storeAfter key calls s) _ (h .2) (kept-after key bytes calls w s (newBook first (salesIn key s)) (kept-new key s first (salesIn key s) (h .0) refl (h .1)))
 
-  after-format : (s : List ℕ) → lengthFits s ≡ true → Agrees key (storeAfter key calls (formatCall s .1)) (kept key calls (formatCall s .1) (newBook 0 []))
-  after-format s e = agrees key (storeAfter key calls (formatCall s .1)) _ k (kept-after key bytes calls w (formatCall s .1) (newBook 0 []) (formatted key s e))
+  after-format : (s : List ℕ) → length key ≡ 32 → lengthFits s ≡ true → Agrees key (storeAfter key calls (formatCall s .1)) (kept key calls (formatCall s .1) (newBook 0 []))
+  after-format s k e = agrees key (storeAfter key calls (formatCall s .1)) _ k (kept-after key bytes calls w (formatCall s .1) (newBook 0 []) (formatted key s e))
 
 -- the figure of a ledger whose first figure is known
 figures : (key s : List ℕ) (b : Book) (first : ℕ) → b .first ≡ first → Agrees key s b
@@ -122,13 +122,13 @@ figures key s b first e a = rw (← e) (a .figure, a .most)
 
 pub conserved : Conserved
 conserved = record {
-  from-accepted = λ key s first calls k bytes w e. accepted key calls k bytes w s first e;
+  from-accepted = λ key s first calls bytes w e. accepted key calls bytes w s first e;
   formats = formats;
-  from-format = λ key s calls k bytes w e. after-format key calls k bytes w s e;
+  from-format = λ key s calls k bytes w e. after-format key calls bytes w s k e;
   since-format = λ key s calls k bytes w e.
-      let h = figures key _ _ 0 (zero-kept key (formatCall s .1) (newBook 0 []) calls (unfold newBook in refl)) (after-format key calls k bytes w s e) in
+      let h = figures key _ _ 0 (zero-kept key (formatCall s .1) (newBook 0 []) calls (unfold newBook in refl)) (after-format key calls bytes w s k e) in
       (h .0 ∙ ap Done (omega arith), omega (arith, h .1));
-  until-format = λ key s first calls k bytes w n e.
-      figures key _ _ first (until key s (newBook first (salesIn key s)) calls n ∙ (unfold newBook in refl)) (accepted key calls k bytes w s first e);
+  until-format = λ key s first calls bytes w n e.
+      figures key _ _ first (until key s (newBook first (salesIn key s)) calls n ∙ (unfold newBook in refl)) (accepted key calls bytes w s first e);
   refused-unchanged = unchanged;
 }

@@ -7,7 +7,7 @@ use Prim.Native.Nat.{ℕ, _+_}
 use native.Mathlib.Omega.{arith}
 use lib.Dec.{eqb, ltb}
 use lib.ListN.{length, length-map}
-use borrow.Author.Tests.{eq-eqb, ne-eqb, eqb-false, lt-ltb, le-ltb, not-false}
+use borrow.Author.Tests.{eq-eqb, ne-eqb, eqb-true, eqb-false, lt-ltb, le-ltb, not-false}
 use Rattle.words.specs.Block.{Bytes}
 use Rattle.answers.specs.Answers.{line, lineAt, checked, judged}
 use Rattle.answers.specs.declared.Ground.the-variants.{KeyLength, SaleNumbers, TagDiffers, StoreFull}
@@ -26,11 +26,13 @@ use Rattle.cells.proofs.Filled.{filled-form, filled-new, filled-others}
 use Rattle.cells.proofs.Emptied.{emptied-form, emptied-others}
 use Rattle.cells.proofs.Fresh.{fresh-form}
 use Rattle.sales.specs.declared.Sale.{Sale}
-use Rattle.sales.specs.Sale.{StoredSale, Fits, bodyFor, storedAs, opens, saleIn}
+use Rattle.sales.specs.Sale.{Detail, StoredSale, Fits, bodyFor, storedAs, opens, saleIn}
+use Rattle.sales.specs.Sale.Detail.{clock, listed}
 use Rattle.sales.proofs.Bodies.{body-long, body-opens, body-sale}
 use Rattle.entries.specs.Entries.{opensAt, shutAt, saleAt, salesIn, cash}
-use Rattle.store.specs.Store.{formChecks, keyChecks, formatChecks, takeChecks, cancelChecks, totalChecks, readChecks, takeCall, cancelCall, totalCall, partWhere, readPart, amountAndPrice, lookUpWhere, lookUpCall}
-use Rattle.ledger.specs.Book.{isNamed, found, without, coins, amountBack, bothTold, cellTaken}
+use Rattle.store.specs.declared.LookUp.the-variants.{Refused as LookUpRefused}
+use Rattle.store.specs.Store.{formChecks, keyChecks, formatChecks, takeChecks, cancelChecks, totalChecks, readChecks, takeCall, cancelCall, totalCall, refusedOr, readPart, pricedBy, amountAndPrice, lookUpCall}
+use Rattle.ledger.specs.Book.{isNamed, found, without, coins, amountBack, bothOf, bothTold, cellTaken}
 use Rattle.ledger.specs.Conserved.{heldIn}
 use Rattle.ledger.proofs.Sales.{map-ext, without-map, found-map, cash-coins}
 
@@ -46,6 +48,10 @@ unfolding keyChecks formChecks
 keys-clear key s next e =
     let a = line-clear _ KeyLength _ e in
     check-formed s next (a .1)
+
+keys-long : (key s : List ℕ) (next : Check) → keyChecks key s next ≡ Clear → length key ≡ 32
+unfolding keyChecks
+keys-long key s next e = eqb-true (length key) 32 (not-false _ (line-clear (not (eqb (length key) 32)) KeyLength _ e .0))
 
 -- format's checks are clear: the length is as said
 pub format-clear : (s : List ℕ) → formatChecks s ≡ Clear → lengthFits s ≡ true
@@ -99,14 +105,14 @@ module _ (key : List ℕ) where
       let next = lineAt (some (shutAt key s) (sales s)) TagDiffers (first (shutAt key s) (sales s)) Clear in
       rw (keys-next key s next k (h .form), in-none (shutAt key s) (sales s) (λ c i. shut-open s c (h .all-open c i)), cash-coins (salesIn key s))
 
-  -- and accepts no other store
-  pub total-accepts : (s : List ℕ) (first : ℕ) → totalCall key s ≡ Done first → Sound key s × (coins (salesIn key s) ≡ first)
+  -- and accepts no other store, and no key of another length
+  pub total-accepts : (s : List ℕ) (first : ℕ) → totalCall key s ≡ Done first → Sound key s × (coins (salesIn key s) ≡ first) × (length key ≡ 32)
   unfolding totalCall totalChecks
   total-accepts s first e =
       let j = judged-done _ (cash (salesIn key s)) first e in
       let a = keys-clear key s _ (j .0) in
       let n = lineAt-clear (some (shutAt key s) (sales s)) TagDiffers _ Clear (a .1) .0 in
-      (record { form = a .0; all-open = λ c i. open-shut s c (none-in (shutAt key s) (sales s) n c i) }, sym (cash-coins (salesIn key s)) ∙ j .1)
+      (record { form = a .0; all-open = λ c i. open-shut s c (none-in (shutAt key s) (sales s) n c i) }, sym (cash-coins (salesIn key s)) ∙ j .1, keys-long key s _ (j .0))
 
   -- ---- format
 
@@ -153,6 +159,16 @@ module _ (key : List ℕ) where
             (sound-of out (firstFree s ∷ sales s) fs f′ (opens-now fs g), sales-of out (firstFree s ∷ sales s) fs f′ ∙ sales-now fs g)
 
   -- ---- cancel, look-up and read
+
+  -- the ledger and the store tell a sale's amount and price alike
+  both-by : (amount : ℕ) (d : Detail) → pricedBy amount d ≡ bothOf amount d
+  unfolding pricedBy bothOf
+  both-by amount (listed price day) = refl
+  both-by amount (clock bytes) = refl
+
+  both-same : (x : StoredSale) → amountAndPrice x ≡ bothOf (x .amount) (x .detail)
+  unfolding amountAndPrice
+  both-same x = both-by (x .amount) (x .detail)
 
   held-long : (kind : ℕ) (body : List ℕ) → length body ≡ 61 → heldIn key kind body ≡ saleIn key kind body ∷ []
   unfolding heldIn
@@ -207,11 +223,11 @@ module _ (key : List ℕ) where
 
     -- what a look-up answers once key and form are right
     looks-by : (t : Bool) → present machine sale s ≡ t
-        → lookUpWhere (line (not (present machine sale s)) SaleNumbers (lineAt (shutAt key s (cellNamed machine sale s)) TagDiffers (cellNamed machine sale s) Clear))
+        → refusedOr LookUpRefused (line (not (present machine sale s)) SaleNumbers (lineAt (shutAt key s (cellNamed machine sale s)) TagDiffers (cellNamed machine sale s) Clear))
         (amountAndPrice (saleAt key s (cellNamed machine sale s)))
         ≡ bothTold (cond t (saleAt key s (cellNamed machine sale s) ∷ []) [])
-    unfolding line lineAt lookUpWhere bothTold
-    looks-by true e = rw (e, shut-open s (cellNamed machine sale s) (h .all-open (cellNamed machine sale s) (named-in e))) refl
+    unfolding line lineAt refusedOr bothTold
+    looks-by true e = rw (e, shut-open s (cellNamed machine sale s) (h .all-open (cellNamed machine sale s) (named-in e))) (both-same (saleAt key s (cellNamed machine sale s)))
     looks-by false e = rw e
 
     -- a look-up answers amount and price of the sale that stands first under these numbers, or 16
@@ -224,8 +240,8 @@ module _ (key : List ℕ) where
 
     -- the part that read hands out once the form is right
     part-holds : (t : Bool) → present machine sale s ≡ t
-        → heldIn key (kindOf s (cellNamed machine sale s)) (partWhere (line (not t) SaleNumbers Clear) (bodyOf s (cellNamed machine sale s))) ≡ cond t (saleAt key s (cellNamed machine sale s) ∷ []) []
-    unfolding line lineAt partWhere heldIn saleAt
+        → heldIn key (kindOf s (cellNamed machine sale s)) (refusedOr (λ ground place. []) (line (not t) SaleNumbers Clear) (bodyOf s (cellNamed machine sale s))) ≡ cond t (saleAt key s (cellNamed machine sale s) ∷ []) []
+    unfolding line lineAt refusedOr heldIn saleAt
     part-holds true e =
         let c = cellNamed machine sale s in
         held-long (kindOf s c) (bodyOf s c) (body-length s c (form-of s (h .form) .sold-here c (named-in e)))

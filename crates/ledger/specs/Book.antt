@@ -7,10 +7,10 @@ use Rattle.answers.specs.declared.Ground.the-variants.{StoreFull, SaleNumbers}
 use Rattle.answers.specs.declared.Answer.{Answer}
 use Rattle.answers.specs.declared.Answer.the-variants.{Done, Refused}
 use Rattle.sales.specs.declared.Sale.{Sale}
-use Rattle.sales.specs.Sale.{StoredSale, storedAs, Fits}
-use Rattle.store.specs.Store.{amountAndPrice}
+use Rattle.sales.specs.Sale.{Detail, StoredSale, storedAs, Fits}
+use Rattle.sales.specs.Sale.Detail.{clock, listed}
 use Rattle.store.specs.declared.LookUp.{LookUp}
-use Rattle.store.specs.declared.LookUp.the-variants.{Refused as NotFound}
+use Rattle.store.specs.declared.LookUp.the-variants.{Priced, Unpriced, Refused as LookUpRefused}
 
 -- ---- sales
 
@@ -90,7 +90,7 @@ bookCancel machine sale b = record {
   standing = without machine sale (b .standing);
 }
 
--- the ledger after one call that was answered so: a refused call counts for nothing, format begins at 0 with no sale
+-- the ledger after one call that was answered so: a refused call counts for nothing, format begins at 0 with no sale; total, read and look-up leave it
 unfoldable pub entered : Call → Answer → Book → Book
 entered call (Refused ground place) b = b
 entered format (Done value) b = newBook 0 []
@@ -105,10 +105,15 @@ unfoldable pub amountBack : List StoredSale → Answer
 amountBack [] = Refused SaleNumbers 0
 amountBack (x ∷ l) = Done (x .amount)
 
--- what a look-up has to answer, by the sale that stands under its numbers: amount and price as taken, or for one with a clock the amount and the mark for no price; 16 where there is none
+-- what a look-up has to answer, by the amount and the last field of the sale that stands under its numbers: both, or for one with a clock the amount and the mark for no price
+unfoldable pub bothOf : ℕ → Detail → LookUp
+bothOf amount (listed price day) = Priced amount price
+bothOf amount (clock bytes) = Unpriced amount
+
+-- 16 where there is no such sale
 unfoldable pub bothTold : List StoredSale → LookUp
-bothTold [] = NotFound SaleNumbers 0
-bothTold (x ∷ l) = amountAndPrice x
+bothTold [] = LookUpRefused SaleNumbers 0
+bothTold (x ∷ l) = bothOf (x .amount) (x .detail)
 
 -- what take has to answer: 16 where a sale stands under its numbers, then 15 where no cell is left, else the cell given
 unfoldable pub cellTaken : List StoredSale → Bool → ℕ → Answer

@@ -60,7 +60,7 @@ module _ (key : List ℕ) where
     pub gives-back : (machine sale : ℕ) → cancelCall key machine sale s .0 ≡ amountBack (found machine sale (b .standing))
     -- take answers the first free cell, and is refused only where its numbers stand or where sales fill all cells but cell 0
     pub takes : (x : Sale) → takeCall key x s .0 ≡ cellTaken (found (x .machine) (x .sale) (b .standing)) (ltb (length (b .standing) + 1) (cells s)) (firstFree s)
-    -- look-up, of any numbers, answers amount and price of the sale that stands under them, as they were taken; the amount and no price where that sale has a clock
+    -- look-up, of any numbers, answers amount and price of the sale that stands under them, for a sale taken since the beginning those that it was taken with; the amount and no price where that sale has a clock
     pub looks-up : (machine sale : ℕ) → lookUpCall key machine sale s ≡ bothTold (found machine sale (b .standing))
     -- read, of any numbers, hands out the sale that stands under them, with every field, in a cell of its kind; an empty part where none does
     pub reads : (machine sale : ℕ) → heldIn (kindOf s (cellNamed machine sale s)) (readPart machine sale s) ≡ found machine sale (b .standing)
@@ -68,7 +68,7 @@ module _ (key : List ℕ) where
 -- the conserved total; proved as conserved in proofs/Conserved
 pub record Conserved : Type 0 where
   -- from any store that total accepts: the ledger begins with its figure and the sales that open there
-  pub from-accepted : (key s : List ℕ) (first : ℕ) (calls : List Call) → length key ≡ 32 → Bytes key → AllFit calls
+  pub from-accepted : (key s : List ℕ) (first : ℕ) (calls : List Call) → Bytes key → AllFit calls
       → totalCall key s ≡ Done first → Agrees key (storeAfter key calls s) (kept key calls s (newBook first (salesIn key s)))
   -- format is refused for no store of a right length, whatever it held, and answers 0
   pub formats : (s : List ℕ) → lengthFits s ≡ true → formatCall s .0 ≡ Done 0
@@ -81,7 +81,7 @@ pub record Conserved : Type 0 where
       → let b = kept key calls (formatCall s .1) (newBook 0 []) in
       (totalCall key (storeAfter key calls (formatCall s .1)) ≡ Done (coins (b .taken) - coins (b .cancelled))) × (coins (b .cancelled) ≤ coins (b .taken))
   -- "from any store that total accepts: until the next format, [..] total gives the first figure plus coin amounts taken less coin amounts cancelled, of both kinds"
-  pub until-format : (key s : List ℕ) (first : ℕ) (calls : List Call) → length key ≡ 32 → Bytes key → AllFit calls → NoFormat calls
+  pub until-format : (key s : List ℕ) (first : ℕ) (calls : List Call) → Bytes key → AllFit calls → NoFormat calls
       → totalCall key s ≡ Done first → let b = kept key calls s (newBook first (salesIn key s)) in
       (totalCall key (storeAfter key calls s) ≡ Done ((first + coins (b .taken)) - coins (b .cancelled))) × (coins (b .cancelled) ≤ first + coins (b .taken))
   -- a refused call "changes nothing": for every key and store and on every ground, no byte of the store

@@ -1,1 +1,2 @@
 pub mod Sale
+pub mod AnyKind

@@ -11,8 +11,16 @@ use Rattle.mem.specs.Mem.{startOf}
 use Rattle.blockplan.specs.Parcel.{Mode, parcelOf, messageOf, genuine}
 use Rattle.mro.specs.Mro.{mroMode}
 use Rattle.cells.specs.Numbers.{part, numberAt}
+use Rattle.cells.specs.Cells.{priced}
 use Rattle.sales.specs.declared.Sale.{Sale}
 use Rattle.sales.specs.declared.Opened.{Opened}
+
+-- ---- a new sale
+
+-- by its fields, in the order of take's arguments
+abbrev pub saleOf : ℕ → ℕ → List ℕ → ℕ → ℕ → ℕ → ℕ → ℕ → Sale
+saleOf machine sale tail amount column means price day =
+    record { machine = machine; sale = sale; tail = tail; amount = amount; column = column; means = means; price = price; day = day }
 
 -- ---- a new sale into 61 bytes
 
@@ -34,7 +42,7 @@ bodyFor key x = nonceOf x ++ parcelOf (saleMode key (nonceOf x)) [] (recordOf x)
 
 -- ---- a sale of either kind
 
--- what the last six bytes of its record are: the clock, or listed price and day number
+-- what the last six bytes of its record are: in a sale of kind 1 the clock, in one of kind 2 listed price and day number
 pub data Detail : Type 0 where
   clock : List ℕ → Detail
   listed : (price day : ℕ) → Detail
@@ -49,7 +57,7 @@ pub record StoredSale : Type 0 where
   pub means : ℕ
   pub detail : Detail
 
--- a new sale: all of them "are kind 2"
+-- as the store holds a new sale ("New sales are kind 2"): with listed price and day number
 unfoldable pub storedAs : Sale → StoredSale
 storedAs x = record {
   machine = x .machine;
@@ -71,9 +79,9 @@ opens key body = genuine (saleMode key (take 16 body)) [] (drop 16 body)
 unfoldable pub recordIn : List ℕ → List ℕ → List ℕ
 recordIn key body = messageOf (saleMode key (take 16 body)) (drop 16 body)
 
--- the record's last six bytes by the kind byte of their cell: price (4) and day number (2) for kind 2; else the clock, and no price
+-- the record's last six bytes, by the kind byte of their cell: listed price in cents (4) and day number (2) for kind 2; else the clock (6)
 unfoldable pub detailIn : ℕ → List ℕ → Detail
-detailIn kind r = cond (eqb kind 2) (listed (numberAt 4 7 r) (numberAt 2 11 r)) (clock (part 6 7 r))
+detailIn kind r = cond (eqb kind priced) (listed (numberAt 4 7 r) (numberAt 2 11 r)) (clock (part 6 7 r))
 
 -- the sale that they hold, in a cell of this kind
 unfoldable pub saleIn : List ℕ → ℕ → List ℕ → StoredSale
@@ -103,7 +111,7 @@ held key body = cond (opens key body) (recordIn key body) (zeros 13)
 
 -- what opening them gives
 pub record IsOpened (key body : List ℕ) (r : Opened) : Type 0 where
-  pub right : r .opens ≡ opens key body
+  pub opens-is : r .opens ≡ opens key body
   pub amount-is : r .amount ≡ numberAt 4 0 (held key body)
   pub means-is : r .means ≡ numberAt 1 6 (held key body)
   pub price-is : r .price ≡ numberAt 4 7 (held key body)

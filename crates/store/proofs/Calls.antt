@@ -22,11 +22,11 @@ use Rattle.cells.proofs.FirstFault.{check-formed, check-after}
 use Rattle.sales.specs.declared.Sale.{Sale}
 use Rattle.sales.specs.Sale.{bodyFor, recordIn, detailIn, saleIn}
 use Rattle.entries.specs.Entries.{opensAt, shutAt, saleAt}
-use Rattle.store.specs.declared.LookUp.the-variants.{Priced, Unpriced, Refused as NoLookUp}
+use Rattle.store.specs.declared.LookUp.the-variants.{Priced, Unpriced, Refused as LookUpRefused}
 use Rattle.store.specs.declared.Named.{Named}
-use Rattle.store.specs.declared.Named.the-variants.{Open, Refused as NotFound}
-use Rattle.store.specs.Store.{formChecks, keyChecks, takeChecks, cancelChecks, readChecks, takeCall, cancelCall, partWhere, readPart, withPrice, amountAndPrice, lookUpWhere, lookUpCall}
-use Rattle.store.specs.Named.{namedWhere, namedOf}
+use Rattle.store.specs.declared.Named.the-variants.{Open, Refused as NamedRefused}
+use Rattle.store.specs.Store.{formChecks, keyChecks, takeChecks, cancelChecks, readChecks, takeCall, cancelCall, refusedOr, readPart, pricedBy, amountAndPrice, lookUpCall}
+use Rattle.store.specs.Named.{namedOf}
 
 -- ---- the checks that stand in front
 
@@ -98,27 +98,27 @@ module _ (key : List ℕ) (x : Sale) (s : List ℕ) where
 -- a result as the checks that it comes from
 abbrev checkIn : Named → Check
 checkIn (Open before c amount price) = Clear
-checkIn (NotFound ground place) = Fails ground place
+checkIn (NamedRefused ground place) = Fails ground place
 
 -- its four numbers
 abbrev beforeIn : Named → ℕ
 beforeIn (Open before c amount price) = before
-beforeIn (NotFound ground place) = 0
+beforeIn (NamedRefused ground place) = 0
 
 abbrev cellIn : Named → ℕ
 cellIn (Open before c amount price) = c
-cellIn (NotFound ground place) = 0
+cellIn (NamedRefused ground place) = 0
 
 abbrev amountIn : Named → ℕ
 amountIn (Open before c amount price) = amount
-amountIn (NotFound ground place) = 0
+amountIn (NamedRefused ground place) = 0
 
 abbrev priceIn : Named → ℕ
 priceIn (Open before c amount price) = price
-priceIn (NotFound ground place) = 0
+priceIn (NamedRefused ground place) = 0
 
-check-back : (c : Check) (b n a p : ℕ) → checkIn (namedWhere c (Open b n a p)) ≡ c
-unfolding namedWhere
+check-back : (c : Check) (b n a p : ℕ) → checkIn (refusedOr NamedRefused c (Open b n a p)) ≡ c
+unfolding refusedOr
 check-back Clear b n a p = refl
 check-back (Fails g at) b n a p = refl
 
@@ -136,29 +136,29 @@ module _ (key : List ℕ) (machine sale : ℕ) (s : List ℕ) where
   unfolding cancelChecks last
   parted = key-after key s last
 
-  fails-named : {g : Ground} {at : ℕ} → cancelChecks key machine sale s ≡ Fails g at → NotFound g at ≡ namedOf key machine sale s
-  unfolding namedOf namedWhere
+  fails-named : {g : Ground} {at : ℕ} → cancelChecks key machine sale s ≡ Fails g at → NamedRefused g at ≡ namedOf key machine sale s
+  unfolding namedOf refusedOr
   fails-named e = rw e
 
-  pub named-stopped : {f : Check} (g : Ground) (at : ℕ) → f ≡ keyChecks key s Clear → f ≡ Fails g at → NotFound g at ≡ namedOf key machine sale s
+  pub named-stopped : {f : Check} (g : Ground) (at : ℕ) → f ≡ keyChecks key s Clear → f ≡ Fails g at → NamedRefused g at ≡ namedOf key machine sale s
   named-stopped g at e q = fails-named (stopped (keyChecks key s Clear) last parted (sym e ∙ q))
 
   module _ {f : Check} (e : f ≡ keyChecks key s Clear) (q : f ≡ Clear) where
     behind : cancelChecks key machine sale s ≡ last
     behind = passed-on (keyChecks key s Clear) last parted (sym e ∙ q)
 
-    pub named-absent : present machine sale s ≡ false → NotFound SaleNumbers 0 ≡ namedOf key machine sale s
+    pub named-absent : present machine sale s ≡ false → NamedRefused SaleNumbers 0 ≡ namedOf key machine sale s
     unfolding last line lineAt
     named-absent p = fails-named (behind ∙ rw p)
 
     module _ (c : ℕ) (p : present machine sale s ≡ true) (h : c ≡ cellNamed machine sale s) where
-      pub named-shut : opensAt key s c ≡ false → NotFound TagDiffers c ≡ namedOf key machine sale s
+      pub named-shut : opensAt key s c ≡ false → NamedRefused TagDiffers c ≡ namedOf key machine sale s
       unfolding last line lineAt shutAt
       named-shut o = fails-named (behind ∙ rw (p, ← h, o))
 
       pub named-open : (before amount price : ℕ) → opensAt key s c ≡ true → before ≡ cellBefore machine sale s → amount ≡ numberAt 4 0 (recordIn key (bodyOf s c))
           → price ≡ numberAt 4 7 (recordIn key (bodyOf s c)) → Open before c amount price ≡ namedOf key machine sale s
-      unfolding namedOf namedWhere last line lineAt shutAt
+      unfolding namedOf refusedOr last line lineAt shutAt
       named-open before amount price o b a w =
           let clear : cancelChecks key machine sale s ≡ Clear = behind ∙ rw (p, ← h, o) in
           rw (clear, b, a, w, h)
@@ -168,7 +168,7 @@ module _ (key : List ℕ) (machine sale : ℕ) (s : List ℕ) where
     unfolding namedOf
     checks-are = ap checkIn e ∙ check-back (cancelChecks key machine sale s) _ _ _ _
 
-    pub named-fails : {g : Ground} {at : ℕ} → n ≡ NotFound g at → cancelChecks key machine sale s ≡ Fails g at
+    pub named-fails : {g : Ground} {at : ℕ} → n ≡ NamedRefused g at → cancelChecks key machine sale s ≡ Fails g at
     named-fails q = sym checks-are ∙ ap checkIn q
 
     module _ {b c a p : ℕ} (q : n ≡ Open b c a p) where
@@ -176,7 +176,7 @@ module _ (key : List ℕ) (machine sale : ℕ) (s : List ℕ) where
       named-clear = sym checks-are ∙ ap checkIn q
 
       is-open : Open b c a p ≡ Open (cellBefore machine sale s) (cellNamed machine sale s) (numberAt 4 0 recordHere) (numberAt 4 7 recordHere)
-      unfolding namedOf namedWhere recordHere
+      unfolding namedOf refusedOr recordHere
       is-open = sym q ∙ e ∙ rw named-clear
 
       pub named-before : b ≡ cellBefore machine sale s
@@ -203,25 +203,25 @@ module _ (key : List ℕ) (machine sale : ℕ) (s : List ℕ) where
       unfolding cancelCall
       cancel-done t w = rw (named-amount, w, named-before, named-cell) (by-clear s _ named-clear)
 
-      looked : withPrice a (detailIn (kindOf s c) recordHere) ≡ lookUpCall key machine sale s
-      unfolding lookUpCall lookUpWhere amountAndPrice saleAt saleIn recordHere
+      looked : pricedBy a (detailIn (kindOf s c) recordHere) ≡ lookUpCall key machine sale s
+      unfolding lookUpCall refusedOr amountAndPrice saleAt saleIn recordHere
       looked = rw (named-clear, named-cell, ap amountIn is-open)
 
       pub looked-priced : kindOf s c ≡ 2 → Priced a p ≡ lookUpCall key machine sale s
-      unfolding withPrice detailIn
+      unfolding pricedBy detailIn
       looked-priced k = rw (ap priceIn is-open) ((rw (eq-eqb (kindOf s c) 2 k) at looked))
 
       pub looked-unpriced : (kindOf s c ≡ 2 → ⊥) → Unpriced a ≡ lookUpCall key machine sale s
-      unfolding withPrice detailIn
+      unfolding pricedBy detailIn
       looked-unpriced k = rw (ne-eqb (kindOf s c) 2 k) at looked
 
-    module _ {g : Ground} {at : ℕ} (q : n ≡ NotFound g at) where
+    module _ {g : Ground} {at : ℕ} (q : n ≡ NamedRefused g at) where
       pub cancel-refused : (Refused g at, s) ≡ cancelCall key machine sale s
       unfolding cancelCall
       cancel-refused = by-fails g at s _ (named-fails q)
 
-      pub looked-refused : NoLookUp g at ≡ lookUpCall key machine sale s
-      unfolding lookUpCall lookUpWhere
+      pub looked-refused : LookUpRefused g at ≡ lookUpCall key machine sale s
+      unfolding lookUpCall refusedOr
       looked-refused = rw (named-fails q)
 
 -- ---- calls that write nothing
@@ -282,7 +282,7 @@ module _ (machine sale : ℕ) (s : List ℕ) {a : Answer} (e : a ≡ judged (rea
     located-present = not-false _ (line-clear (not (present machine sale s)) SaleNumbers Clear (check-formed s _ (located .0) .1) .0)
 
     pub located-part : {part : List ℕ} → part ≡ bodyOf s c → part ≡ readPart machine sale s
-    unfolding readPart partWhere
+    unfolding readPart refusedOr
     located-part p = p ∙ rw (located .0, located .1)
 
     pub located-judged : (r : Answer) → r ≡ judged (readChecks machine sale s) r
@@ -293,7 +293,7 @@ module _ (machine sale : ℕ) (s : List ℕ) {a : Answer} (e : a ≡ judged (rea
     fails = judged-refused (readChecks machine sale s) (cellNamed machine sale s) g at (sym e ∙ q)
 
     pub unlocated-part : [] ≡ readPart machine sale s
-    unfolding readPart partWhere
+    unfolding readPart refusedOr
     unlocated-part = rw fails
 
     pub unlocated-judged : (r : Answer) → Refused g at ≡ judged (readChecks machine sale s) r

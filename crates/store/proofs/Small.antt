@@ -1,15 +1,16 @@
 -- What the calls answer is small: each place, and each value but the total. Assumes nothing.
 use mathlib.Core.Path.{_≡_, refl, sym, ap, _∙_}
-use mathlib.Core.Bool.{true, not, cond}
+use mathlib.Core.Bool.{true, not, cond, false≢true}
 use mathlib.Core.List.{List}
 use Prim.Native.Nat.{ℕ, _+_, _*_, _^_, _<_}
 use native.Mathlib.Omega.{arith}
+use native.Mathlib.Decide.{ℕ-discrete}
 use lib.Dec.{eqb, lit<}
 use lib.ListN.{length}
-use borrow.Author.Tests.{eqb-false, not-false}
+use borrow.Author.Tests.{eq-eqb, ne-eqb, eqb-false, not-false}
 use Rattle.words.specs.Block.{Bytes}
 use Rattle.words.proofs.Blocks.{bytes-take, bytes-drop}
-use Rattle.answers.specs.Answers.{valueOf, line}
+use Rattle.answers.specs.Answers.{valueOf, line, judged}
 use Rattle.answers.specs.declared.Ground.the-variants.{KeyLength, TagDiffers, StoreFull, SaleNumbers}
 use Rattle.answers.specs.declared.Check.{Check}
 use Rattle.answers.specs.declared.Check.the-variants.{Clear, Fails}
@@ -18,18 +19,18 @@ use Rattle.answers.specs.declared.Answer.the-variants.{Done, Refused}
 use Rattle.answers.proofs.Numbers.{told-apart}
 use Rattle.answers.proofs.Values.{placeOf, line-clear, lineAt-lt, checked-lt, judged-lt}
 use Rattle.cells.specs.Chains.{some, first}
-use Rattle.cells.specs.Cells.{cells, firstFree, bodyOf, sales, formed, present, cellNamed}
+use Rattle.cells.specs.Cells.{cells, firstFree, kindOf, bodyOf, sales, kindFits, formed, named, present, cellNamed}
 use Rattle.cells.proofs.Chains.{first-in}
 use Rattle.cells.proofs.Form.{form-of}
 use Rattle.cells.proofs.FirstFault.{check-formed, check-place, length-place}
 use Rattle.sales.specs.declared.Sale.{Sale}
-use Rattle.sales.specs.Sale.{Detail}
+use Rattle.sales.specs.Sale.{Detail, detailIn, saleIn}
 use Rattle.sales.specs.Sale.Detail.{clock, listed}
 use Rattle.sales.proofs.Bodies.{amount-lt}
 use Rattle.entries.specs.Entries.{shutAt, saleAt}
 use Rattle.store.specs.declared.LookUp.{LookUp}
-use Rattle.store.specs.declared.LookUp.the-variants.{Priced, Unpriced, Refused as NotFound}
-use Rattle.store.specs.Store.{formChecks, keyChecks, formatChecks, takeChecks, cancelChecks, totalChecks, readChecks, formatCall, takeCall, cancelCall, readOffset, withPrice, amountAndPrice, lookUpWhere, lookUpCall, kindTold, amountTold, priceTold, lookedUp}
+use Rattle.store.specs.declared.LookUp.the-variants.{Priced, Unpriced, Refused as LookUpRefused}
+use Rattle.store.specs.Store.{formChecks, keyChecks, formatChecks, takeChecks, cancelChecks, totalChecks, readChecks, formatCall, takeCall, cancelCall, readOffset, pricedBy, amountAndPrice, refusedOr, lookUpCall, kindTold, amountTold, priceTold, lookedUp}
 use Rattle.store.proofs.Sought.{cell-inside, free-inside}
 use Rattle.store.proofs.Calls.{key-all}
 
@@ -81,8 +82,8 @@ cancel-small key machine sale s h =
     (λ e. unfold saleAt bodyOf in amount-lt key _ _ (bytes-take 61 _ (bytes-drop (64 * c + 3) s h)))
 
 -- a look-up answers 2, 1 or a place
-looked-lt : (c : Check) (amount : ℕ) (d : Detail) → placeOf c < 2 ^ 32 → valueOf (kindTold (lookUpWhere c (withPrice amount d))) < 2 ^ 32
-unfolding kindTold lookUpWhere withPrice
+looked-lt : (c : Check) (amount : ℕ) (d : Detail) → placeOf c < 2 ^ 32 → valueOf (kindTold (refusedOr LookUpRefused c (pricedBy amount d))) < 2 ^ 32
+unfolding kindTold refusedOr pricedBy
 looked-lt Clear amount (listed price day) h = lit< tt
 looked-lt Clear amount (clock bytes) h = lit< tt
 looked-lt (Fails g at) amount d h = h
@@ -91,16 +92,46 @@ pub look-up-small : (key : List ℕ) (machine sale : ℕ) (s : List ℕ) → val
 unfolding lookUpCall amountAndPrice
 look-up-small key machine sale s = looked-lt (cancelChecks key machine sale s) _ _ (cancel-place key machine sale s)
 
+-- of a sale in the chain the kind is one or the other
+kind-told : (kind amount : ℕ) (r : List ℕ) → kindFits true kind ≡ true → kindTold (pricedBy amount (detailIn kind r)) ≡ Done kind
+unfolding kindFits kindTold pricedBy detailIn
+kind-told kind amount r e = elim (ℕ-discrete kind 2) [
+  | yes q ↦ rw (eq-eqb kind 2 q, q)
+  | no q ↦ elim (ℕ-discrete kind 1) [
+    | yes p ↦ rw (ne-eqb kind 2 q, p)
+    | no p ↦ absurd (false≢true (rw (ne-eqb kind 1 p, ne-eqb kind 2 q) at e))
+  ]
+]
+
+-- where cancel's checks are clear, the sale's kind fits
+named-fits : (key : List ℕ) (machine sale : ℕ) (s : List ℕ) → cancelChecks key machine sale s ≡ Clear → kindFits true (kindOf s (cellNamed machine sale s)) ≡ true
+unfolding cancelChecks present cellNamed
+named-fits key machine sale s e =
+    let h = key-all key s _ e in
+    let there = not-false _ (line-clear (not (present machine sale s)) SaleNumbers _ (h .1) .0) in
+    form-of s (h .0) .sold-kind _ (first-in (named machine sale s) (sales s) there)
+
+kind-judged : (c : Check) (kind amount : ℕ) (r : List ℕ) → (c ≡ Clear → kindFits true kind ≡ true)
+    → kindTold (refusedOr LookUpRefused c (pricedBy amount (detailIn kind r))) ≡ judged c (Done kind)
+unfolding refusedOr judged kindTold
+kind-judged Clear kind amount r h = kind-told kind amount r (h refl)
+kind-judged (Fails g at) kind amount r h = refl
+
+-- a look-up that is not refused answers the kind of the sale's cell
+pub look-up-kind : (key : List ℕ) (machine sale : ℕ) (s : List ℕ) → kindTold (lookUpCall key machine sale s) ≡ judged (cancelChecks key machine sale s) (Done (kindOf s (cellNamed machine sale s)))
+unfolding lookUpCall amountAndPrice saleAt saleIn
+look-up-kind key machine sale s = kind-judged (cancelChecks key machine sale s) (kindOf s (cellNamed machine sale s)) _ _ (named-fits key machine sale s)
+
 -- a look-up by its number and the two variables
 abbrev lookUpOf : Answer → ℕ → ℕ → LookUp
 lookUpOf (Done kind) amount price = cond (eqb kind 2) (Priced amount price) (Unpriced amount)
-lookUpOf (Refused ground place) amount price = NotFound ground place
+lookUpOf (Refused ground place) amount price = LookUpRefused ground place
 
 look-up-back : (r : LookUp) (amount price : ℕ) → lookUpOf (kindTold r) (amountTold r amount) (priceTold r price) ≡ r
 unfolding kindTold amountTold priceTold
 look-up-back (Priced a p) amount price = refl
 look-up-back (Unpriced a) amount price = refl
-look-up-back (NotFound g at) amount price = refl
+look-up-back (LookUpRefused g at) amount price = refl
 
 pub look-ups-apart : (a b : LookUp) (amount price : ℕ) → valueOf (kindTold a) < 2 ^ 32 → valueOf (kindTold b) < 2 ^ 32 → lookedUp a amount price ≡ lookedUp b amount price → a ≡ b
 unfolding lookedUp

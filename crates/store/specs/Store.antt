@@ -5,13 +5,14 @@ use Prim.Native.Nat.{ℕ, _+_, _*_}
 use lib.Dec.{eqb}
 use lib.ListN.{length}
 use Rattle.answers.specs.Answers.{codeOf, line, lineAt, checked, judged}
+use Rattle.answers.specs.declared.Ground.{Ground}
 use Rattle.answers.specs.declared.Ground.the-variants.{KeyLength, TagDiffers, StoreFull, SaleNumbers}
 use Rattle.answers.specs.declared.Check.{Check}
 use Rattle.answers.specs.declared.Check.the-variants.{Clear, Fails}
 use Rattle.answers.specs.declared.Answer.{Answer}
 use Rattle.answers.specs.declared.Answer.the-variants.{Done, Refused}
 use Rattle.cells.specs.Chains.{some, first}
-use Rattle.cells.specs.Cells.{cells, firstFree, bodyOf, sales, present, cellNamed, cellBefore}
+use Rattle.cells.specs.Cells.{cells, firstFree, bodyOf, sales, unpriced, priced, present, cellNamed, cellBefore}
 use Rattle.cells.specs.declared.Fault.the-variants.{Sound}
 use Rattle.cells.specs.Faults.{lengthOr, faultOf, faultCheck}
 use Rattle.cells.specs.Changes.{fresh, filled, emptied}
@@ -20,7 +21,7 @@ use Rattle.sales.specs.Sale.{bodyFor, Detail, StoredSale}
 use Rattle.sales.specs.Sale.Detail.{clock, listed}
 use Rattle.entries.specs.Entries.{shutAt, saleAt, salesIn, cash}
 use Rattle.store.specs.declared.LookUp.{LookUp}
-use Rattle.store.specs.declared.LookUp.the-variants.{Priced, Unpriced, Refused as NotFound}
+use Rattle.store.specs.declared.LookUp.the-variants.{Priced, Unpriced, Refused as LookUpRefused}
 
 -- ---- checks
 
@@ -54,6 +55,11 @@ totalChecks key s = keyChecks key s (lineAt (some (shutAt key s) (sales s)) TagD
 unfoldable pub readChecks : ℕ → ℕ → List ℕ → Check
 readChecks machine sale s = formChecks s (line (not (present machine sale s)) SaleNumbers Clear)
 
+-- what the checks find, refused in this way; the result where they are clear
+unfoldable pub refusedOr : {A : Type 0} → (Ground → ℕ → A) → Check → A → A
+refusedOr refuse Clear result = result
+refusedOr refuse (Fails ground place) result = refuse ground place
+
 -- ---- calls: the answer, and the store afterwards; a refused call changes no byte of it
 
 -- format: all cells free, chained upward from 1; returns 0
@@ -74,14 +80,9 @@ cancelCall key machine sale s =
 unfoldable pub totalCall : List ℕ → List ℕ → Answer
 totalCall key s = judged (totalChecks key s) (Done (cash (salesIn key s)))
 
--- a part of the store where the checks are clear, an empty part where refused
-unfoldable pub partWhere : Check → List ℕ → List ℕ
-partWhere Clear part = part
-partWhere (Fails ground place) part = []
-
 -- read: "A reader that names a sale receives its 61 bytes as a part of the store itself; where refused, an empty part"
 unfoldable pub readPart : ℕ → ℕ → List ℕ → List ℕ
-readPart machine sale s = partWhere (readChecks machine sale s) (bodyOf s (cellNamed machine sale s))
+readPart machine sale s = refusedOr (λ ground place. []) (readChecks machine sale s) (bodyOf s (cellNamed machine sale s))
 
 -- read's second call: the number and place of the refusal, 0 and 0 where nothing is refused
 unfoldable pub readRefusal : ℕ → ℕ → List ℕ → Answer
@@ -93,41 +94,36 @@ readOffset machine sale s = judged (readChecks machine sale s) (Done (64 * cellN
 
 -- ---- look-up: only its answer, since the store is only read
 
--- amount and listed price; of a sale with a clock, "the amount and a mark for no price": a case of its own, so that no price is like it
-unfoldable pub withPrice : ℕ → Detail → LookUp
-withPrice amount (listed price day) = Priced amount price
-withPrice amount (clock bytes) = Unpriced amount
+-- "gives both, or for kind 1 the amount and a mark for no price, told apart from price 0": the mark is a case of its own, so that it differs from every price
+unfoldable pub pricedBy : ℕ → Detail → LookUp
+pricedBy amount (listed price day) = Priced amount price
+pricedBy amount (clock bytes) = Unpriced amount
 
--- what a sale tells
+-- amount and price of a sale
 unfoldable pub amountAndPrice : StoredSale → LookUp
-amountAndPrice x = withPrice (x .amount) (x .detail)
+amountAndPrice x = pricedBy (x .amount) (x .detail)
 
--- that where the checks are clear; else what they find
-unfoldable pub lookUpWhere : Check → LookUp → LookUp
-lookUpWhere Clear result = result
-lookUpWhere (Fails ground place) result = NotFound ground place
-
--- "A look-up, checked as cancel and changing nothing, gives both"
+-- "A look-up, checked as cancel and changing nothing": of the sale that is named
 unfoldable pub lookUpCall : List ℕ → ℕ → ℕ → List ℕ → LookUp
-lookUpCall key machine sale s = lookUpWhere (cancelChecks key machine sale s) (amountAndPrice (saleAt key s (cellNamed machine sale s)))
+lookUpCall key machine sale s = refusedOr LookUpRefused (cancelChecks key machine sale s) (amountAndPrice (saleAt key s (cellNamed machine sale s)))
 
 -- each case's number: the sale's kind, 2 with a price and 1 without; or the refusal's number and place
 unfoldable pub kindTold : LookUp → Answer
-kindTold (Priced amount price) = Done 2
-kindTold (Unpriced amount) = Done 1
-kindTold (NotFound ground place) = Refused ground place
+kindTold (Priced amount price) = Done priced
+kindTold (Unpriced amount) = Done unpriced
+kindTold (LookUpRefused ground place) = Refused ground place
 
 -- what C's variable for the amount holds afterwards, by what it held before
 unfoldable pub amountTold : LookUp → ℕ → ℕ
 amountTold (Priced amount price) before = amount
 amountTold (Unpriced amount) before = amount
-amountTold (NotFound ground place) before = before
+amountTold (LookUpRefused ground place) before = before
 
 -- and that for the price: unchanged where there is none
 unfoldable pub priceTold : LookUp → ℕ → ℕ
 priceTold (Priced amount price) before = price
 priceTold (Unpriced amount) before = before
-priceTold (NotFound ground place) before = before
+priceTold (LookUpRefused ground place) before = before
 
 -- for C: the one number, and the two variables
 unfoldable pub lookedUp : LookUp → ℕ → ℕ → ℕ × (ℕ × ℕ)

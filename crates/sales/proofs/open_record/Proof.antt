@@ -61,7 +61,7 @@ returns c =
     let left = c .before .before .before .before .before .before .before .«open» .ensures in
     let told = held-opened (now (a .key)) (now (a .body)) (now (a .out)) (begin .pre .1 .0) (begin .pre .1 .1) _ _ _ start left in
     record {
-      right = told .0;
+      opens-is = told .0;
       amount-is = c .before .before .before .number-at .ensures ∙ ap (numberAt 4 0) (told .1);
       means-is = sym (one-byte _ 6 (search needs)) ∙ ap (numberAt 1 6) (told .1);
       price-is = c .number-at2 .ensures ∙ ap (numberAt 4 7) (told .1);

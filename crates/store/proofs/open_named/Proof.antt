@@ -57,7 +57,7 @@ returns-2 c =
     let e = c .before .before .before .before .before .before .before .find .ensures in
     let q = c .before .before .before .before .before .there .given .1 in
     named-shut _ _ _ _ (c .before .before .before .before .before .before .before .before .before .before .check-key .ensures) (c .before .before .before .before .before .before .before .before .enum-told .given .1) _ (found-present _ _ _ e q) (found-cell _ _ _ e q)
-    (rw (c .before .before .before .body-of .ensures) at (sym (c .before .before .open-sale .ensures .right) ∙ not-true _ (c .if1 .taken)))
+    (rw (c .before .before .before .body-of .ensures) at (sym (c .before .before .open-sale .ensures .opens-is) ∙ not-true _ (c .if1 .taken)))
 
 returns-3 : tie.Need-returns-3
 returns-3 c =
@@ -70,7 +70,7 @@ returns-4 c =
     let q = c .before .before .before .before .before .there .given .1 in
     let body = c .before .before .before .body-of .ensures in
     let sale = c .before .before .open-sale .ensures in
-    let o = rw body at (sym (sale .right) ∙ not-false _ (c .if1 .left)) in
+    let o = rw body at (sym (sale .opens-is) ∙ not-false _ (c .if1 .left)) in
     let r = held-record _ _ o in
     named-open _ _ _ _ (c .before .before .before .before .before .before .before .before .before .before .check-key .ensures) (c .before .before .before .before .before .before .before .before .enum-told .given .1) _ (found-present _ _ _ e q) (found-cell _ _ _ e q) _ _ _ o (found-before _ _ _ e q)
     ((rw body at (sale .amount-is)) ∙ ap (numberAt 4 0) r) ((rw body at (sale .price-is)) ∙ ap (numberAt 4 7) r)

@@ -83,7 +83,7 @@ loop-again c =
     let a : c .before .before .before .before .open-sale .result .amount < 2 ^ 32 = search needs in
     let v = chosen-le (eqb (c .before .before .before .before .open-sale .result .means) 1) (c .before .before .before .before .open-sale .result .amount) in
     let e = c .before .cash-of .ensures in
-    let o = rw body at (sym (sale .right) ∙ not-false _ (c .before .before .if2 .left)) in
+    let o = rw body at (sym (sale .opens-is) ∙ not-false _ (c .before .before .if2 .left)) in
     let m = rw body at (sale .amount-is) in
     let w = rw body at (sale .means-is) in
     rw (c .next-of .ensures) (sum-on _ _ _ _ _ k (c .before .before .before .before .before .before .if1 .left) _ o (e ∙ rw (m, w) (held-cash _ _ o _)) (omega arith))
@@ -98,7 +98,7 @@ returns-2 : tie.Need-returns-2 Inv-loop μ-loop
 unfolding summed opensAt
 returns-2 c =
     sum-shut _ _ _ _ _ (c .before .before .before .before .before .loop .inv) (c .before .before .before .before .if1 .left)
-    (rw (c .before .before .before .body-of .ensures) at (sym (c .before .before .open-sale .ensures .right) ∙ not-true _ (c .if2 .taken)))
+    (rw (c .before .before .before .body-of .ensures) at (sym (c .before .before .open-sale .ensures .opens-is) ∙ not-true _ (c .if2 .taken)))
 
 pub sum-up-spec : {M : Type 1} → statement M
 sum-up-spec =
