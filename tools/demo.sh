@@ -1,8 +1,8 @@
 #!/bin/sh
 # The main job with the command line tool: seals a sale by both engines, opens it, shows that a
 # damaged parcel is refused, opens a parcel of an earlier version and converts it, alone and in a
-# folder, steps a mask on and back in two orders, keeps sales in a store, and says what is broken in a
-# damaged copy of it.
+# folder, steps a mask on and back in two orders, keeps sales in a store, tells the amount and the price
+# of one, and says what is broken in a damaged copy of the store.
 #
 # usage: demo.sh CALMBAIZE
 #
@@ -18,8 +18,8 @@ hex() {
     od -An -v -tx1 "$1" | tr -d ' \n'
 }
 
-# 13 bytes: amount in cents (4), column (2), means (1), clock (6), low byte first.
-printf '\226\0\0\0\004\0\001\350\007\001\002\003\004' > sale
+# 13 bytes: amount in cents (4), column (2), means (1), price in cents (4), day (2), low byte first.
+printf '\226\0\0\0\004\0\001\225\0\0\0\100\001' > sale
 head -c 32 /dev/urandom > key
 head -c 16 /dev/urandom > nonce
 settings="--key-file key --nonce-file nonce --mode mro --rounds 6"
@@ -100,17 +100,17 @@ cmp one three
 cmp start back
 echo "and back with GAAA:   the start again"
 
-# Number, amount in cents.
+# Number, amount and price in cents.
 take() {
     "$tool" store take till --key-file key --machine 11 --sale "$1" --amount "$2" --column 4 \
-        --means coin
+        --means coin --price "$3" --day 320
 }
 
 "$tool" store format till --cells 8
 [ "$(hex till | cut -c 1-8)" = 00000100 ]
 echo "a store of 8 cells:   $(hex till | cut -c 1-40)..."
-take 1 150 > one
-take 2 320 > two
+take 1 150 149 > one
+take 2 320 320 > two
 echo "two sales in coins:   150 in cell $(cat one), 320 in cell $(cat two)"
 grep -qx 1 one
 grep -qx 2 two
@@ -120,6 +120,14 @@ echo "the second, sealed:   $(hex part | cut -c 1-40)..."
 "$tool" store total till --key-file key > total
 echo "cash total:           $(cat total)"
 grep -qx 470 total
+"$tool" store price till --key-file key --machine 11 --sale 1 > price
+echo "rounded for coins:    $(cat price)"
+grep -qx 'amount 150 price 149' price
+# Cell 1 now has the kind of the sales that versions before 0.8.0 took.
+{ head -c 66 till; printf '\001'; tail -c +68 till; } > earlier
+"$tool" store price earlier --key-file key --machine 11 --sale 1 > price
+echo "as an older sale:     $(cat price)"
+grep -qx 'amount 150 no price' price
 "$tool" store cancel till --key-file key --machine 11 --sale 1 > amount
 "$tool" store total till --key-file key > total
 echo "the first cancelled:  $(cat amount) back, cash total $(cat total)"

@@ -125,7 +125,7 @@ extern "C" {
     pub fn baseline_permute(rounds: u32, s: *mut [u64; 16]);
 }
 
-/// The type of take: key, store, machine, sale, the nonce's tail, amount, column, means and clock.
+/// The type of take: key, store, machine, sale, the nonce's tail, amount, column, means, price and day.
 pub type Take = unsafe extern "C" fn(
     *const u8,
     usize,
@@ -137,7 +137,8 @@ pub type Take = unsafe extern "C" fn(
     u32,
     u16,
     u8,
-    *const u8,
+    u32,
+    u16,
 ) -> u64;
 
 /// The type of cancel: key, store, machine and sale.
@@ -149,6 +150,10 @@ pub type Total = unsafe extern "C" fn(*const u8, usize, *const u8, usize, *mut u
 /// The type of read: store, machine and sale.
 pub type Read = unsafe extern "C" fn(*const u8, usize, u32, u32) -> u64;
 
+/// The type of look_up: key, store, machine, sale, amount and price.
+pub type LookUp =
+    unsafe extern "C" fn(*const u8, usize, *const u8, usize, u32, u32, *mut u32, *mut u32) -> u64;
+
 /// The calls on a filled store, as someone has them.
 #[derive(Clone, Copy)]
 #[allow(missing_docs)]
@@ -157,11 +162,13 @@ pub struct Store {
     pub cancel: Cancel,
     pub total: Total,
     pub read: Read,
+    pub look_up: LookUp,
 }
 
 /// Declares the calls on a filled store of one build, and puts them together.
 macro_rules! store {
-    ($(#[$note:meta])* $scope:vis const $build:ident = $take:ident $cancel:ident $total:ident $read:ident) => {
+    ($(#[$note:meta])* $scope:vis const $build:ident =
+        $take:ident $cancel:ident $total:ident $read:ident $look_up:ident) => {
         extern "C" {
             /// Takes a sale; the arguments are those of `calmbaize_store_take`.
             $scope fn $take(
@@ -175,7 +182,8 @@ macro_rules! store {
                 amount: u32,
                 column: u16,
                 means: u8,
-                clock: *const u8,
+                price: u32,
+                day: u16,
             ) -> u64;
 
             /// Cancels a sale; the arguments are those of `calmbaize_store_cancel`.
@@ -199,6 +207,18 @@ macro_rules! store {
 
             /// Finds a sale; the arguments are those of `calmbaize_store_read`.
             $scope fn $read(store: *const u8, store_len: usize, machine: u32, sale: u32) -> u64;
+
+            /// Looks a sale up; the arguments are those of `calmbaize_store_look_up`.
+            $scope fn $look_up(
+                key: *const u8,
+                key_len: usize,
+                store: *const u8,
+                store_len: usize,
+                machine: u32,
+                sale: u32,
+                amount: *mut u32,
+                price: *mut u32,
+            ) -> u64;
         }
 
         $(#[$note])*
@@ -207,6 +227,7 @@ macro_rules! store {
             cancel: $cancel,
             total: $total,
             read: $read,
+            look_up: $look_up,
         };
     };
 }
@@ -214,13 +235,13 @@ macro_rules! store {
 store! {
     /// The store's calls, which see a sound store without marks.
     pub const STORE = baseline_store_take baseline_store_cancel
-        baseline_store_total baseline_store_read
+        baseline_store_total baseline_store_read baseline_store_look_up
 }
 
 store! {
     /// Those that look at every store by marks.
     pub const BY_MARKS = marks_baseline_store_take marks_baseline_store_cancel
-        marks_baseline_store_total marks_baseline_store_read
+        marks_baseline_store_total marks_baseline_store_read marks_baseline_store_look_up
 }
 
 /// What clang compiles, where there is one.
@@ -230,12 +251,13 @@ mod clang {
 
     store! {
         pub(super) const STORE = clang_baseline_store_take clang_baseline_store_cancel
-            clang_baseline_store_total clang_baseline_store_read
+            clang_baseline_store_total clang_baseline_store_read clang_baseline_store_look_up
     }
 
     store! {
         pub(super) const BY_MARKS = clang_marks_baseline_store_take clang_marks_baseline_store_cancel
             clang_marks_baseline_store_total clang_marks_baseline_store_read
+            clang_marks_baseline_store_look_up
     }
 
     sealing! {

@@ -80,7 +80,7 @@ pub static MARKS: Builds = Builds {
 const SMALLER: usize = 128;
 const LARGEST: [Size; 2] = [Cells(1024), Shuffled(1024)];
 
-const SOUND: [&str; 4] = [TAKE, CANCEL, READ, TOTAL];
+const SOUND: [&str; 6] = [TAKE, CANCEL, READ, MIXED, LOOK_UP, TOTAL];
 const DAMAGED: [&str; 5] = [RING, CROSSED, LONG_CROSSED, MISSING, NO_KIND];
 /// All cells in one chain, which is walked to its end without marks and then with them.
 const ONE_CHAIN: [&str; 2] = [LONG_RING, LONG_PAST];
@@ -109,8 +109,8 @@ pub static BOUNDS: [Bound; 19] = [
     of(WideRun, &[SEAL, OPEN]).by(By::Who(Library), 0.55).aim(0.45),
     of(WideRun, &[SEAL, OPEN]).over(Over::Opp).by(By::Who(Avx2C), 1.15).aim(1.0),
     of(WideRun, &[SEAL, OPEN]).over(Over::Opp).by(By::Who(Avx2Clang), 1.10).aim(1.0),
-    store(&SOUND, "store take, cancel, read, total").by(By::Quicker(&MARKS), 1.00),
-    store(&SOUND, "store take, cancel, read, total").by(By::Quicker(&QUICKEST), 1.25),
+    store(&SOUND, "store take, cancel, read, look-up, total").by(By::Quicker(&MARKS), 1.00),
+    store(&SOUND, "store take, cancel, read, look-up, total").by(By::Quicker(&QUICKEST), 1.25),
     store(&DAMAGED, "store read, damaged").by(By::Quicker(&MARKS), 2.00),
     store(&ONE_CHAIN, "store read, damaged, one chain").by(By::Quicker(&MARKS), 2.10).aim(2.0),
     // Without marks it is known late, but no later than a long one.

@@ -28,7 +28,8 @@ const NAMES: &str = "Calmbaize alone is the stepping engine on the archive in `d
 /// What stands below the figures of the store.
 const STORES: &str = "In brackets the time by the C that looks at every store by marks, and by the quickest C, \
     which as Calmbaize sees a sound store without (`c/store.c`, compiled twice). Half of the cells are sales. \
-    Cancel and read are of the sale that is last in its chain. The cells that a call changes are put back before \
+    Cancel, read and look-up are of the sale that is last in its chain. Sales have a price; where they are of both \
+    kinds, those in every other cell have none. The cells that a call changes are put back before \
     the next, which is timed with it. The reads of damaged stores are refused; a long chain has all cells, or all \
     but one.\n\n";
 

@@ -6,6 +6,7 @@ use crate::cases::Size::{self, Cells, Shuffled};
 use crate::cases::{Implementation, Key, KEY};
 use crate::measure::Case;
 use baseline::{stores_by_clang, Store, BY_MARKS, STORE};
+use reference::store::{FREE, PRICED, UNPRICED};
 
 /// How large the stores are. Half of the cells of a sound one are sales.
 pub const SIZES: [Size; 6] = [
@@ -21,7 +22,7 @@ pub const SIZES: [Size; 6] = [
 pub const CELL: usize = 64;
 const MACHINE: u32 = 7;
 const TAIL: [u8; 8] = [0x24; 8];
-const CLOCK: [u8; 6] = [0x5a; 6];
+const DAY: u16 = 0x5a5a;
 /// Where the first free index stands, and a cell's kind.
 const FIRST_FREE: usize = 2;
 const KIND: usize = 2;
@@ -34,6 +35,10 @@ pub const TAKE: &str = "store take";
 pub const CANCEL: &str = "store cancel";
 /// Of the same.
 pub const READ: &str = "store read";
+/// Of the same, in a chain with sales of both kinds.
+pub const MIXED: &str = "store read of both kinds";
+/// Of the same, among sales with a price, as the others are.
+pub const LOOK_UP: &str = "store look-up";
 pub const TOTAL: &str = "store total";
 
 // The read of a damaged store is the check and little else.
@@ -67,10 +72,12 @@ pub struct Call {
 
 /// Every call.
 #[rustfmt::skip]
-pub const CALLS: [Call; 12] = [
+pub const CALLS: [Call; 14] = [
     Call { name: TAKE, make: take, prepare: |store| store.free[0] as u64 },
     Call { name: CANCEL, make: cancel, prepare: |_| amount(1).into() },
-    Call { name: READ, make: read, prepare: |store| (CELL * end(&store.sales) + 3) as u64 },
+    Call { name: READ, make: read, prepare: |store| store.found() },
+    Call { name: MIXED, make: read, prepare: |store| store.mix().found() },
+    Call { name: LOOK_UP, make: look_up, prepare: |_| figures(amount(1), price(1)) },
     Call { name: TOTAL, make: total, prepare: |store| coins(store.sales.len() as u32) },
     Call { name: RING, make: read, prepare: |store| store.lead_to(|store| store.free[0]) },
     Call { name: LONG_RING, make: read, prepare: |store| store.all_sales().lead_to(|store| end(&store.sales)) },
@@ -103,6 +110,7 @@ const LIBRARY: Store = Store {
     cancel: calmbaize::ffi::calmbaize_store_cancel,
     total: calmbaize::ffi::calmbaize_store_total,
     read: calmbaize::ffi::calmbaize_store_read,
+    look_up: calmbaize::ffi::calmbaize_store_look_up,
 };
 
 /// Takes one sale more.
@@ -121,7 +129,8 @@ fn take(by: &Store, store: &mut [u8], sales: u32) -> u64 {
             amount(sale),
             3,
             means(sale),
-            CLOCK.as_ptr(),
+            price(sale),
+            DAY,
         )
     }
 }
@@ -137,6 +146,29 @@ fn read(by: &Store, store: &mut [u8], _: u32) -> u64 {
     unsafe { (by.read)(store.as_ptr(), store.len(), MACHINE, 1) }
 }
 
+/// Answers amount and price, or what they are not where it is refused or the sale has no price.
+fn look_up(by: &Store, store: &mut [u8], _: u32) -> u64 {
+    let (bytes, len) = (store.as_ptr(), store.len());
+    let (mut amount, mut price) = (u32::MAX, u32::MAX);
+    // SAFETY: each pointer is valid for its length, and amount and price overlap nothing.
+    let kind = unsafe {
+        (by.look_up)(
+            KEY.as_ptr(),
+            KEY.len(),
+            bytes,
+            len,
+            MACHINE,
+            1,
+            &mut amount,
+            &mut price,
+        )
+    };
+    match kind == u64::from(PRICED) {
+        true => figures(amount, price),
+        false => u64::MAX,
+    }
+}
+
 /// Answers the total itself, or what no total is where it is refused.
 fn total(by: &Store, store: &mut [u8], _: u32) -> u64 {
     let (bytes, len) = (store.as_ptr(), store.len());
@@ -150,6 +182,16 @@ fn total(by: &Store, store: &mut [u8], _: u32) -> u64 {
 
 fn amount(sale: u32) -> u32 {
     100 + sale
+}
+
+/// What the amount was rounded from.
+fn price(sale: u32) -> u32 {
+    amount(sale) + 2
+}
+
+/// Both in one number.
+fn figures(amount: u32, price: u32) -> u64 {
+    u64::from(price) << 32 | u64::from(amount)
 }
 
 /// Coin and card in turn.
@@ -230,7 +272,7 @@ impl Filled {
 
     /// Writes heads, next indices and kinds.
     fn link(&mut self) {
-        for (head, chain, kind) in [(0, &self.sales, 1), (FIRST_FREE, &self.free, 0)] {
+        for (head, chain, kind) in [(0, &self.sales, PRICED), (FIRST_FREE, &self.free, FREE)] {
             let mut holder = head;
             for cell in chain {
                 put(&mut self.bytes, holder, *cell);
@@ -239,6 +281,19 @@ impl Filled {
             }
             put(&mut self.bytes, holder, 0);
         }
+    }
+
+    /// What read answers of the sale that is last in its chain.
+    fn found(&self) -> u64 {
+        (CELL * end(&self.sales) + 3) as u64
+    }
+
+    /// Makes sales of an older unit of those in every other cell; a shuffled chain has them in no order.
+    fn mix(&mut self) -> &mut Self {
+        for cell in self.sales.iter().filter(|&cell| cell % 2 == 0) {
+            self.bytes[CELL * cell + KIND] = UNPRICED;
+        }
+        self
     }
 
     /// Makes one long chain of both.
@@ -325,9 +380,12 @@ fn random(mut seed: u64) -> impl FnMut() -> u64 {
 mod tests {
     use super::*;
 
-    /// Damages a store at a few places.
+    /// Damages a store at a few places, of both kinds or not.
     fn damaged(size: Size, random: &mut impl FnMut() -> u64) -> Filled {
         let mut store = Filled::new(size);
+        if random() % 2 == 0 {
+            store.mix();
+        }
         for _ in 0..random() % 3 {
             let cells = store.cells();
             let at = CELL * (random() as usize % cells);
@@ -337,7 +395,7 @@ mod tests {
                     FIRST_FREE,
                     random() as usize % (cells + 1),
                 ),
-                1 => store.bytes[at + KIND] = (random() % 3) as u8,
+                1 => store.bytes[at + KIND] = (random() % 4) as u8,
                 _ => put(&mut store.bytes, at, random() as usize % (cells + 1)),
             }
         }
@@ -347,7 +405,7 @@ mod tests {
     #[test]
     fn every_version_answers_alike() {
         let mut random = random(2);
-        let mut refused = [0; 32];
+        let (mut refused, mut priced) = ([0; 32], [0; 2]);
         for round in 0..6000 {
             let cells = if round % 100 == 0 {
                 1024
@@ -357,17 +415,21 @@ mod tests {
             let store = damaged(Shuffled(cells), &mut random);
             let answers = all_who().into_iter().map(|(who, by)| {
                 let mut bytes = store.bytes.clone();
-                (who, read(&by, &mut bytes, 0), bytes)
+                let found = [read, look_up].map(|make| make(&by, &mut bytes, 0));
+                (who, found, bytes)
             });
             let answers: Vec<_> = answers.collect();
-            refused[(answers[0].1 >> 32) as usize] += 1;
-            for (who, answer, bytes) in &answers {
-                assert_eq!(*answer, answers[0].1, "{who}, {cells} cells");
+            let [offset, figures] = answers[0].1;
+            refused[(offset >> 32) as usize] += 1;
+            priced[usize::from(figures != u64::MAX)] += 1;
+            for (who, found, bytes) in &answers {
+                assert_eq!(*found, answers[0].1, "{who}, {cells} cells");
                 assert!(*bytes == store.bytes, "{who} changed the store");
             }
         }
         for number in [0, INDEX, MISFIT] {
             assert!(refused[number as usize] > 100, "{refused:?}");
         }
+        assert!(priced.into_iter().all(|calls| calls > 100), "{priced:?}");
     }
 }

@@ -3,7 +3,7 @@
 //! Pointers may be null where the length is 0. What a call writes must not overlap another buffer.
 //! Words are counted as such, and aligned as `u64` is.
 
-use crate::Refusal;
+use crate::{LookUp, Refusal, KIND_PRICED, KIND_UNPRICED};
 
 extern "C" {
     /// See [`slices::seal`](crate::slices::seal).
@@ -194,5 +194,20 @@ pub const fn decode(answer: u64) -> Result<u32, Refusal> {
     match number {
         0 => Ok(value),
         _ => Err(Refusal::new(number, value)),
+    }
+}
+
+/// Takes an answer of [`calmbaize_store_look_up`] apart, with what that has written.
+///
+/// No answer makes it panic: a kind that this version does not know is
+/// [`Ground::Unknown`](crate::Ground::Unknown), with the kind as its place.
+pub fn decode_look_up(answer: u64, amount: u32, price: u32) -> Result<LookUp, Refusal> {
+    let kind = decode(answer)?;
+    if kind == KIND_PRICED.into() {
+        Ok(LookUp::Priced { amount, price })
+    } else if kind == KIND_UNPRICED.into() {
+        Ok(LookUp::Unpriced { amount })
+    } else {
+        Err(Refusal::new(0, kind))
     }
 }

@@ -58,7 +58,7 @@ pub use aead::{run_words, Aead, Header};
 pub use key::{Key, Nonce};
 pub use masks::{jump, walk, Step};
 pub use refusal::{Ground, Refusal};
-pub use sale::{open_sale, sale_numbers, Sale};
+pub use sale::{Detail, LookUp, Sale, SealedSale, StoredSale};
 pub use settings::{Mode, Rounds};
 pub use store::{Occupancy, Sales, Store};
 
@@ -90,9 +90,11 @@ pub const MAX_STORE_LEN: usize = 65_536;
 pub const SALE_LEN: usize = 61;
 /// Bytes at the end of a sale's nonce that the caller chooses.
 pub const NONCE_TAIL_LEN: usize = 8;
-/// Bytes of a sale's clock.
-pub const CLOCK_LEN: usize = 6;
 /// A sale paid in coins, the only one that counts in the cash total.
 pub const MEANS_COIN: u8 = 1;
 /// A sale paid by card.
 pub const MEANS_CARD: u8 = 2;
+/// A sale with a clock and no price, as versions before 0.8.0 stored them.
+pub const KIND_UNPRICED: u8 = 1;
+/// A sale with price and day.
+pub const KIND_PRICED: u8 = 2;

@@ -61,7 +61,8 @@ macro_rules! grounds {
                 $name,
             )+
             /// A number that this version of the crate does not know, from an archive of another
-            /// version. What such a call wrote is not known either.
+            /// version, or 0 for a value of a success that it does not know. What such a call wrote
+            /// is not known either.
             #[non_exhaustive]
             Unknown {
                 /// That number.
@@ -110,7 +111,7 @@ grounds! {
     12 Step "step at {place} is not 1 to 6",
     13 TooManySteps "list is over 4,096 steps",
     15 StoreFull "store has no free cell",
-    16 SaleNumbers "machine and sale number are there already (take) or not there (cancel, read)",
+    16 SaleNumbers "machine and sale number are there already (take) or not there (cancel, read, look-up)",
     17 DoneAlready "done already: parcel opens under the new start, and not under the old",
     18 StoreLength "store is not 128 to 65,536 bytes in cells of 64",
     19 StoreIndex "index held by cell {place} is past the last cell, or of a cell reached before",

@@ -1,7 +1,7 @@
 //! A store of sealed sales in a lent buffer.
 
 use crate::slices::store;
-use crate::{Ground, Key, Refusal, Sale, CELL_LEN, NONCE_TAIL_LEN, SALE_LEN};
+use crate::{Ground, Key, LookUp, Refusal, Sale, SealedSale, CELL_LEN, NONCE_TAIL_LEN, SALE_LEN};
 
 /// A store of sealed sales over a lent buffer of [`MIN_STORE_LEN`](crate::MIN_STORE_LEN) to
 /// [`MAX_STORE_LEN`](crate::MAX_STORE_LEN) bytes, a multiple of [`CELL_LEN`].
@@ -9,9 +9,10 @@ use crate::{Ground, Key, Refusal, Sale, CELL_LEN, NONCE_TAIL_LEN, SALE_LEN};
 /// It keeps nothing beside the buffer. Each call but [`format`](Self::format) checks the whole
 /// buffer's form, as [`check`](Self::check) does alone, and refuses what is no store. A refused call changes no byte.
 ///
-/// Each cell but the first holds one sale: its machine and sale number in the clear, the rest
-/// sealed under MRO with six rounds. From a [`format`](Self::format) on, with one key and these
-/// calls only, the [`total`](Self::total) is the coin amounts taken less those cancelled.
+/// Each cell but the first holds one sale: its kind and its machine and sale number in the clear, the
+/// rest sealed under MRO with six rounds. From any store that [`total`](Self::total) accepts on, until
+/// the next [`format`](Self::format), with that key and these calls only, the total is the first one
+/// plus the coin amounts taken less those cancelled, of both kinds.
 ///
 /// ```
 /// use calmbaize::{Key, Refusal, Sale, Store, CELL_LEN, MEANS_CARD, MEANS_COIN};
@@ -21,8 +22,9 @@ use crate::{Ground, Key, Refusal, Sale, CELL_LEN, NONCE_TAIL_LEN, SALE_LEN};
 /// let mut store = Store::new(&mut buffer);
 /// store.format()?;
 ///
-/// let tea =
-///     Sale { machine: 11, sale: 1, amount: 150, column: 4, means: MEANS_COIN, clock: [0; 6] };
+/// let tea = Sale {
+///     machine: 11, sale: 1, amount: 150, column: 4, means: MEANS_COIN, price: 149, day: 320,
+/// };
 /// let cake = Sale { sale: 2, amount: 320, column: 9, ..tea };
 /// let soup = Sale { sale: 3, amount: 410, means: MEANS_CARD, ..tea };
 /// for (sale, tail) in [tea, cake, soup].iter().zip(1_u64..) {
@@ -113,7 +115,8 @@ impl<'a> Store<'a> {
         })
     }
 
-    /// Seals a sale into the first free cell and puts it before the other sales.
+    /// Seals a sale into the first free cell, with its price and day, and puts it before the other
+    /// sales.
     ///
     /// Returns the cell. The sale's nonce is its two numbers and `nonce_tail`, which is best fresh
     /// for every sale: where the whole nonce comes again under one key, as after a cancellation,
@@ -132,8 +135,9 @@ impl<'a> Store<'a> {
     /// let (mut buffer, key) = ([0; 128], Key::new([7; 32]));
     /// let mut store = Store::new(&mut buffer);
     /// store.format()?;
-    /// let sale =
-    ///     Sale { machine: 11, sale: 1, amount: 150, column: 4, means: MEANS_COIN, clock: [0; 6] };
+    /// let sale = Sale {
+    ///     machine: 11, sale: 1, amount: 150, column: 4, means: MEANS_COIN, price: 149, day: 320,
+    /// };
     /// assert_eq!(store.take(&key, b"12345678", &sale), Ok(1));
     /// let next = Sale { sale: 2, ..sale };
     /// assert_eq!(store.take(&key, b"12345679", &next), Err(Ground::StoreFull.into()));
@@ -150,7 +154,7 @@ impl<'a> Store<'a> {
 
     /// Takes a sale out, of two alike the first in the chain, and frees its cell.
     ///
-    /// Returns the sale's amount in cents.
+    /// Returns the sale's amount in cents, never its price.
     ///
     /// # Errors
     ///
@@ -165,8 +169,9 @@ impl<'a> Store<'a> {
     /// let (mut buffer, key) = ([0; 128], Key::new([7; 32]));
     /// let mut store = Store::new(&mut buffer);
     /// store.format()?;
-    /// let sale =
-    ///     Sale { machine: 11, sale: 1, amount: 150, column: 4, means: MEANS_COIN, clock: [0; 6] };
+    /// let sale = Sale {
+    ///     machine: 11, sale: 1, amount: 150, column: 4, means: MEANS_COIN, price: 149, day: 320,
+    /// };
     /// store.take(&key, b"12345678", &sale)?;
     /// assert_eq!(store.cancel(&key, 11, 1), Ok(150));
     /// assert_eq!(store.cancel(&key, 11, 1), Err(Ground::SaleNumbers.into()));
@@ -193,8 +198,9 @@ impl<'a> Store<'a> {
     /// let mut store = Store::new(&mut buffer);
     /// store.format()?;
     /// assert_eq!(store.total(&key), Ok(0));
-    /// let sale =
-    ///     Sale { machine: 11, sale: 1, amount: 150, column: 4, means: MEANS_COIN, clock: [0; 6] };
+    /// let sale = Sale {
+    ///     machine: 11, sale: 1, amount: 150, column: 4, means: MEANS_COIN, price: 149, day: 320,
+    /// };
     /// store.take(&key, b"12345678", &sale)?;
     /// assert_eq!(store.total(&key), Ok(150));
     /// let refusal = store.total(&Key::new([8; 32])).unwrap_err();
@@ -205,8 +211,39 @@ impl<'a> Store<'a> {
         store::total(key.bytes(), self.bytes)
     }
 
-    /// A sale, of two alike the first in the chain, as a part of the buffer itself: nonce, sealed
-    /// record and tag. [`open_sale`](crate::open_sale) opens it.
+    /// Amount and listed price of a sale, of two alike the first in the chain. A sale that a version
+    /// before 0.8.0 took has no price.
+    ///
+    /// # Errors
+    ///
+    /// Those of [`cancel`](Self::cancel).
+    ///
+    /// # Examples
+    ///
+    /// ```
+    /// use calmbaize::{Key, LookUp, Refusal, Sale, Store, KIND_UNPRICED, MEANS_COIN};
+    ///
+    /// let (mut buffer, key) = ([0; 128], Key::new([7; 32]));
+    /// let mut store = Store::new(&mut buffer);
+    /// store.format()?;
+    /// let sale = Sale {
+    ///     machine: 11, sale: 1, amount: 150, column: 4, means: MEANS_COIN, price: 149, day: 320,
+    /// };
+    /// store.take(&key, b"12345678", &sale)?;
+    /// let both = LookUp::Priced { amount: 150, price: 149 };
+    /// assert_eq!(store.look_up(&key, 11, 1), Ok(both));
+    ///
+    /// // As such a version has stored it.
+    /// buffer[64 + 2] = KIND_UNPRICED;
+    /// let alone = LookUp::Unpriced { amount: 150 };
+    /// assert_eq!(Store::new(&mut buffer).look_up(&key, 11, 1), Ok(alone));
+    /// # Ok::<(), Refusal>(())
+    /// ```
+    pub fn look_up(&self, key: &Key, machine: u32, sale: u32) -> Result<LookUp, Refusal> {
+        store::look_up(key.bytes(), self.bytes, machine, sale)
+    }
+
+    /// A sale, of two alike the first in the chain, as a part of the buffer itself, with its kind.
     ///
     /// # Errors
     ///
@@ -221,22 +258,24 @@ impl<'a> Store<'a> {
     /// let (mut buffer, key) = ([0; 128], Key::new([7; 32]));
     /// let mut store = Store::new(&mut buffer);
     /// store.format()?;
-    /// let sale =
-    ///     Sale { machine: 11, sale: 1, amount: 150, column: 4, means: MEANS_COIN, clock: [0; 6] };
+    /// let sale = Sale {
+    ///     machine: 11, sale: 1, amount: 150, column: 4, means: MEANS_COIN, price: 149, day: 320,
+    /// };
     /// store.take(&key, b"12345678", &sale)?;
-    /// assert_eq!(store.read(11, 1)?[..16], *b"\x0b\0\0\0\x01\0\0\012345678");
+    /// assert_eq!(store.read(11, 1)?.part[..16], *b"\x0b\0\0\0\x01\0\0\012345678");
     /// assert_eq!(store.read(11, 2), Err(Ground::SaleNumbers.into()));
     /// # Ok::<(), Refusal>(())
     /// ```
-    pub fn read(&self, machine: u32, sale: u32) -> Result<&[u8; SALE_LEN], Refusal> {
+    pub fn read(&self, machine: u32, sale: u32) -> Result<SealedSale<'_>, Refusal> {
         let offset = store::read(self.bytes, machine, sale)?;
-        let part = self.bytes.get(offset..).and_then(<[u8]>::first_chunk);
+        let cell = offset.checked_sub(CELL_LEN - SALE_LEN);
+        let cell = cell.and_then(|cell| self.bytes.get(cell..)?.first_chunk());
         // An archive that answers another offset is of a version that this crate does not know.
-        part.ok_or(Refusal::new(0, offset as u32))
+        cell.map(sealed).ok_or(Refusal::new(0, offset as u32))
     }
 
-    /// The sales of the chain, the last one taken first: of each its cell, and the part of the
-    /// buffer that [`read`](Self::read) gives too.
+    /// The sales of the chain, the last one taken first: of each its cell, and what
+    /// [`read`](Self::read) gives too.
     ///
     /// # Errors
     ///
@@ -245,16 +284,17 @@ impl<'a> Store<'a> {
     /// # Examples
     ///
     /// ```
-    /// use calmbaize::{sale_numbers, Key, Refusal, Sale, Store, MEANS_COIN};
+    /// use calmbaize::{Key, Refusal, Sale, Store, MEANS_COIN};
     ///
     /// let (mut buffer, key) = ([0; 256], Key::new([7; 32]));
     /// let mut store = Store::new(&mut buffer);
     /// store.format()?;
-    /// let first =
-    ///     Sale { machine: 11, sale: 1, amount: 150, column: 4, means: MEANS_COIN, clock: [0; 6] };
+    /// let first = Sale {
+    ///     machine: 11, sale: 1, amount: 150, column: 4, means: MEANS_COIN, price: 149, day: 320,
+    /// };
     /// store.take(&key, b"12345678", &first)?;
     /// store.take(&key, b"12345679", &Sale { sale: 2, ..first })?;
-    /// let mut sales = store.sales()?.map(|(cell, part)| (cell, sale_numbers(part)));
+    /// let mut sales = store.sales()?.map(|(cell, sealed)| (cell, sealed.numbers()));
     /// assert_eq!(sales.next(), Some((2, (11, 2))));
     /// assert_eq!(sales.next(), Some((1, (11, 1))));
     /// assert_eq!(sales.next(), None);
@@ -291,17 +331,23 @@ pub struct Sales<'a> {
 }
 
 impl<'a> Iterator for Sales<'a> {
-    type Item = (u32, &'a [u8; SALE_LEN]);
+    type Item = (u32, SealedSale<'a>);
 
     fn next(&mut self) -> Option<Self::Item> {
         let cell = self.next;
         if cell == 0 {
             return None;
         }
-        let bytes: &[u8; CELL_LEN] = self.store.get(cell * CELL_LEN..)?.first_chunk()?;
+        let bytes = self.store.get(cell * CELL_LEN..)?.first_chunk()?;
         self.next = index(bytes);
-        bytes.last_chunk().map(|part| (cell as u32, part))
+        Some((cell as u32, sealed(bytes)))
     }
+}
+
+/// The sale in a cell, behind the next one's index.
+const fn sealed(cell: &[u8; CELL_LEN]) -> SealedSale<'_> {
+    let [_, _, kind, part @ ..] = cell;
+    SealedSale { kind: *kind, part }
 }
 
 /// The index that a cell begins with: the first sale's in cell 0, the next one's in the others.

@@ -1,7 +1,7 @@
 //! Any number that an archive may answer, taken apart.
 
-use calmbaize::ffi::decode;
-use calmbaize::{Ground, Refusal, Rounds};
+use calmbaize::ffi::{decode, decode_look_up};
+use calmbaize::{Ground, LookUp, Refusal, Rounds, KIND_PRICED, KIND_UNPRICED};
 use std::error::Error;
 
 /// The number that no call gives any more.
@@ -17,6 +17,29 @@ fn refusal(number: u32, place: u32) -> Refusal {
 fn a_success_is_its_value() {
     for value in [0, 1, 128, 65_568, u32::MAX] {
         assert_eq!(decode(value.into()), Ok(value));
+    }
+}
+
+/// Of a look-up the value is a kind. What the call has written counts for the two known ones alone.
+#[test]
+fn a_look_up_is_by_its_kind() {
+    let (amount, price) = (150, 149);
+    let decoded = |answer| decode_look_up(answer, amount, price);
+    let priced = LookUp::Priced { amount, price };
+    assert_eq!(decoded(KIND_PRICED.into()), Ok(priced));
+    assert_eq!(
+        decoded(KIND_UNPRICED.into()),
+        Ok(LookUp::Unpriced { amount })
+    );
+    for kind in (3..70_000).chain([0, 257, u32::MAX]) {
+        let refusal = decoded(kind.into()).unwrap_err();
+        assert_eq!((refusal.number(), refusal.place), (0, kind));
+    }
+    for number in (1..UNKNOWN).chain([u32::MAX]) {
+        for place in [0, 1, 2, u32::MAX] {
+            let answer = u64::from(number) << 32 | u64::from(place);
+            assert_eq!(decoded(answer), Err(refusal(number, place)));
+        }
     }
 }
 

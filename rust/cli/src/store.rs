@@ -6,11 +6,11 @@ use crate::files::{self, Access};
 use crate::help::store as help;
 use crate::options::{needed, Options, FILE};
 use crate::Failure;
-use calmbaize::{open_sale, sale_numbers, Key, Occupancy, Sale, Store};
-use calmbaize::{CELL_LEN, MAX_STORE_LEN, MEANS_CARD, MEANS_COIN, NONCE_TAIL_LEN, SALE_LEN};
+use calmbaize::{Detail, Key, LookUp, Occupancy, Sale, SealedSale, Store, StoredSale};
+use calmbaize::{CELL_LEN, MAX_STORE_LEN, MEANS_CARD, MEANS_COIN, NONCE_TAIL_LEN};
 use std::ffi::OsStr;
 
-pub const COMMANDS: [Command; 7] = [
+pub const COMMANDS: [Command; 8] = [
     Command {
         name: "format",
         help: help::format,
@@ -29,7 +29,8 @@ pub const COMMANDS: [Command; 7] = [
             "--amount",
             "--column",
             "--means",
-            "--clock",
+            "--price",
+            "--day",
             "--nonce-tail",
         ],
         run: take,
@@ -39,6 +40,12 @@ pub const COMMANDS: [Command; 7] = [
         help: help::cancel,
         options: &[FILE, "--key", "--key-file", "--machine", "--sale"],
         run: cancel,
+    },
+    Command {
+        name: "price",
+        help: help::price,
+        options: &[FILE, "--key", "--key-file", "--machine", "--sale"],
+        run: price,
     },
     Command {
         name: "total",
@@ -94,13 +101,15 @@ fn format(options: &Options) -> Result<(), Failure> {
 
 fn take(options: &Options) -> Result<(), Failure> {
     let file = file(options)?;
+    let (machine, sale) = named(options)?;
     let sale = Sale {
-        machine: options.needed("--machine")?,
-        sale: options.needed("--sale")?,
+        machine,
+        sale,
         amount: options.needed("--amount")?,
         column: options.needed("--column")?,
         means: means(options)?,
-        clock: options.array("--clock")?.unwrap_or_default(),
+        price: options.needed("--price")?,
+        day: options.number("--day")?.unwrap_or_default(),
     };
     let tail = options.array("--nonce-tail")?;
     let key = key(options)?.ok_or_else(key_needed)?;
@@ -111,10 +120,22 @@ fn take(options: &Options) -> Result<(), Failure> {
 
 fn cancel(options: &Options) -> Result<(), Failure> {
     let file = file(options)?;
-    let (machine, sale) = (options.needed("--machine")?, options.needed("--sale")?);
+    let (machine, sale) = named(options)?;
     let key = key(options)?.ok_or_else(key_needed)?;
     let amount = change(file, |store| Ok(store.cancel(&key, machine, sale)?))?;
     files::print(&format!("{amount}\n"))
+}
+
+fn price(options: &Options) -> Result<(), Failure> {
+    let file = file(options)?;
+    let (machine, sale) = named(options)?;
+    let key = key(options)?.ok_or_else(key_needed)?;
+    let found = Store::new(&mut contents(file)?).look_up(&key, machine, sale)?;
+    let price = match found {
+        LookUp::Priced { price, .. } => format!("price {price}"),
+        LookUp::Unpriced { .. } => "no price".into(),
+    };
+    files::print(&format!("amount {} {price}\n", found.amount()))
 }
 
 fn total(options: &Options) -> Result<(), Failure> {
@@ -126,7 +147,7 @@ fn total(options: &Options) -> Result<(), Failure> {
 
 fn read(options: &Options) -> Result<(), Failure> {
     let file = file(options)?;
-    let (machine, sale) = (options.needed("--machine")?, options.needed("--sale")?);
+    let (machine, sale) = named(options)?;
     let output = options.value("--output");
     if output.is_some_and(|output| files::is_same(output, file)) {
         return Err(Failure::Usage("--output is the store itself".into()));
@@ -134,15 +155,15 @@ fn read(options: &Options) -> Result<(), Failure> {
     let key = key(options)?;
     let mut bytes = contents(file)?;
     let store = Store::new(&mut bytes);
-    let part = store.read(machine, sale)?;
-    let opened = key.map(|key| open_sale(&key, part)).transpose()?;
+    let sealed = store.read(machine, sale)?;
+    let opened = key.map(|key| sealed.open(&key)).transpose()?;
     let mut text = String::new();
     match output {
-        Some(_) => files::write(output, part, Access::Ordinary)?,
-        None => text = hex(part) + "\n",
+        Some(_) => files::write(output, sealed.part, Access::Ordinary)?,
+        None => text = hex(sealed.part) + "\n",
     }
     if let Some(sale) = opened {
-        text += &format!("{} {}\n", numbers(part), fields(&sale));
+        text += &format!("{} {}\n", numbers(&sealed), fields(&sale));
     }
     files::print(&text)
 }
@@ -155,9 +176,9 @@ fn list(options: &Options) -> Result<(), Failure> {
     let store = Store::new(&mut bytes);
     let mut text = String::new();
     let mut refused = None;
-    for (cell, part) in store.sales()? {
-        text += &format!("cell {cell} {}", numbers(part));
-        match key.as_ref().map(|key| open_sale(key, part)) {
+    for (cell, sealed) in store.sales()? {
+        text += &format!("cell {cell} {}", numbers(&sealed));
+        match key.as_ref().map(|key| sealed.open(key)) {
             None => {}
             Some(Ok(sale)) => text += &format!(" {}", fields(&sale)),
             Some(Err(mut refusal)) => {
@@ -206,6 +227,11 @@ fn key(options: &Options) -> Result<Option<Key>, Failure> {
     Ok(bytes.map(|bytes| Key::try_from(&bytes[..])).transpose()?)
 }
 
+/// Machine and sale number of the sale that is meant.
+fn named(options: &Options) -> Result<(u32, u32), Failure> {
+    Ok((options.needed("--machine")?, options.needed("--sale")?))
+}
+
 fn means(options: &Options) -> Result<u8, Failure> {
     match options.text("--means")? {
         None => Err(needed("--means")),
@@ -217,18 +243,22 @@ fn means(options: &Options) -> Result<u8, Failure> {
     }
 }
 
-fn numbers(part: &[u8; SALE_LEN]) -> String {
-    let (machine, sale) = sale_numbers(part);
+fn numbers(sealed: &SealedSale<'_>) -> String {
+    let (machine, sale) = sealed.numbers();
     format!("machine {machine} sale {sale}")
 }
 
-/// What was sealed, in the words of the options.
-fn fields(sale: &Sale) -> String {
+/// What was sealed, in the words of the options, but for a clock, for which there is none any more.
+fn fields(sale: &StoredSale) -> String {
     let means = match sale.means {
         MEANS_COIN => "coin".into(),
         MEANS_CARD => "card".into(),
         other => other.to_string(),
     };
-    let (amount, column, clock) = (sale.amount, sale.column, hex(&sale.clock));
-    format!("amount {amount} column {column} means {means} clock {clock}")
+    let detail = match sale.detail {
+        Detail::Priced { price, day } => format!("price {price} day {day}"),
+        Detail::Unpriced { clock } => format!("clock {}", hex(&clock)),
+    };
+    let (amount, column) = (sale.amount, sale.column);
+    format!("amount {amount} column {column} means {means} {detail}")
 }

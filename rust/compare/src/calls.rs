@@ -6,13 +6,14 @@ use crate::entry::Arg::*;
 use crate::entry::Entry;
 use crate::library::{function, Slots};
 use crate::runs;
-use reference::store::{self, Sale as Sold};
+use crate::stores::look_up;
+use reference::store::{self, Sale as Sold, PRICED, UNPRICED};
 use reference::{open_under, seal_under, Refusal, Start, BLOCK_LEN, TAG_LEN};
 
 /// All calls. Another one is another line here.
-pub static ALL: [&Entry; 13] = [
+pub static ALL: [&Entry; 14] = [
     &SEAL, &OPEN, &OPEN_OLD, &CONVERT, &SEAL_RUN, &OPEN_RUN, &WALK, &JUMP, &FORMAT, &TAKE, &CANCEL,
-    &TOTAL, &READ,
+    &TOTAL, &READ, &LOOK_UP,
 ];
 
 /// The calls that seal, or take a parcel.
@@ -137,10 +138,10 @@ pub static FORMAT: Entry = Entry {
 pub static TAKE: Entry = Entry {
     name: "take",
     args: &[
-        Key, Store, Machine, Sale, Tail, Amount, Column, Means, Clock,
+        Key, Store, Machine, Sale, Tail, Amount, Column, Means, Price, Day,
     ],
     refused: &[3, 18, 19, 20, 16, 15],
-    function: function!(c11, calmbaize_store_take, baseline_store_take),
+    function: function!(c12, calmbaize_store_take, baseline_store_take),
     reference: take_by_reference,
     ..FORMAT
 };
@@ -181,6 +182,16 @@ pub static READ: Entry = Entry {
     ..FORMAT
 };
 
+pub static LOOK_UP: Entry = Entry {
+    name: "look_up",
+    args: &[Key, Store, Machine, Sale, FoundAmount, FoundPrice],
+    writes: &[FoundAmount, FoundPrice],
+    law: look_up::law,
+    function: function!(c8, calmbaize_store_look_up, baseline_store_look_up),
+    reference: look_up_by_reference,
+    ..CANCEL
+};
+
 fn take_by_reference(a: &mut Slots) -> Result<usize, Refusal> {
     let (key, store) = (a.next(), a.next());
     let sold = Sold {
@@ -190,9 +201,24 @@ fn take_by_reference(a: &mut Slots) -> Result<usize, Refusal> {
         amount: a.next(),
         column: a.next(),
         means: a.next(),
-        clock: *a.next::<&[u8]>().first_chunk().expect("a clock"),
+        price: a.next(),
+        day: a.next(),
     };
     store::take(key, store, &sold)
+}
+
+fn look_up_by_reference(a: &mut Slots) -> Result<usize, Refusal> {
+    let found = store::look_up(a.next(), a.next(), a.next(), a.next())?;
+    let [amount, price]: [&mut [u32]; 2] = a.next();
+    amount[0] = found.amount;
+    let kind = match found.price {
+        Some(found) => {
+            price[0] = found;
+            PRICED
+        }
+        None => UNPRICED,
+    };
+    Ok(kind.into())
 }
 
 /// A walk, with an output that is just enough.
@@ -228,8 +254,11 @@ pub fn on_store(entry: &'static Entry, key: &[u8], store: &[u8], sold: &Sold) ->
         Amount => sold.amount.into(),
         Column => u32::from(sold.column).into(),
         Means => u32::from(sold.means).into(),
-        Clock => sold.clock[..].into(),
+        Price => sold.price.into(),
+        Day => u32::from(sold.day).into(),
         Total => pattern(8).into(),
+        FoundAmount => pattern(4).into(),
+        FoundPrice => pattern(8)[4..].into(),
         _ => panic!("{arg:?} is no argument of a store"),
     })
 }

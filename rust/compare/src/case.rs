@@ -34,8 +34,8 @@ pub struct Case {
 /// An argument as it is written.
 enum Field {
     Number(i64),
-    /// A number that the call may change.
-    Variable(u64),
+    /// The bytes of a number that the call may change.
+    Variable(Vec<u8>),
     Bytes(Bytes),
 }
 
@@ -54,7 +54,7 @@ impl Field {
                 let count = count.map_err(|_| format!("'{text}' does not fit"))?;
                 Ok(Self::Number(count.into()))
             }
-            Kind::Variable => number(text).map(Self::Variable),
+            Kind::Variable(len) => variable(len, text).map(Self::Variable),
             _ => {
                 let bytes = Bytes::parse(text)?;
                 let len = bytes.bytes.len();
@@ -69,7 +69,7 @@ impl Field {
     fn value(&self) -> Value {
         match self {
             Self::Number(number) => Value::Number(*number),
-            Self::Variable(number) => Value::Bytes(number.to_ne_bytes().into()),
+            Self::Variable(bytes) => Value::Bytes(bytes.clone()),
             Self::Bytes(bytes) => Value::Bytes(bytes.bytes.clone()),
         }
     }
@@ -78,11 +78,10 @@ impl Field {
     fn differs(&self, text: &str, now: &[u8]) -> Result<Option<String>, String> {
         let wanted = match self {
             Self::Number(_) => return Err("a number that the call writes".into()),
-            Self::Variable(_) => {
-                let wanted = number::<u64>(text)?;
-                let got = u64::from_ne_bytes(now.try_into().expect("eight bytes"));
-                let difference = || format!("the variable to be {wanted}, and is {got}");
-                return Ok((got != wanted).then(difference));
+            Self::Variable(before) => {
+                let wanted = variable(before.len(), text)?;
+                let difference = || format!("the variable to be {text}, and is {}", held(now));
+                return Ok((now != wanted).then(difference));
             }
             Self::Bytes(before) => before.after(text)?,
         };
@@ -91,6 +90,22 @@ impl Field {
             let (wanted, got) = (hex(&wanted[at..]), hex(&now[at..]));
             format!("from byte {at} of {} wanted {wanted}, got {got}", now.len())
         }))
+    }
+}
+
+/// A variable of `len` bytes that holds the number of `text`.
+fn variable(len: usize, text: &str) -> Result<Vec<u8>, String> {
+    match len {
+        4 => number::<u32>(text).map(|number| number.to_ne_bytes().into()),
+        _ => number::<u64>(text).map(|number| number.to_ne_bytes().into()),
+    }
+}
+
+/// The number that such a variable holds.
+fn held(bytes: &[u8]) -> u64 {
+    match bytes.try_into() {
+        Ok(four) => u32::from_ne_bytes(four).into(),
+        Err(_) => u64::from_ne_bytes(bytes.try_into().expect("eight bytes")),
     }
 }
 
@@ -268,6 +283,33 @@ mod tests {
                 assert!(added(fields, "0 0 7").is_err(), "{fields}");
             }
             assert!(added("5 2 *8:00", "0 0 07x").is_err());
+        }
+    }
+
+    /// `variable variable`, a call that copies the first one of 32 bits to the second.
+    static COPY: Entry = Entry {
+        args: &[Arg::FoundAmount, Arg::FoundPrice],
+        writes: &[Arg::FoundAmount, Arg::FoundPrice],
+        reference: |a| {
+            let [from, to]: [&mut [u32]; 2] = a.next();
+            to[0] = from[0];
+            Ok(0)
+        },
+        ..SEAL
+    };
+
+    #[test]
+    fn variables_of_32_bits() {
+        for edge in [0, 1, 2] {
+            let copied = |fields: &str, answer| replay(&COPY, &format!("{edge} {fields}"), answer);
+            assert_eq!(copied("4294967295 1", "0 0 4294967295 4294967295"), Ok(()));
+            let differs = "the variable to be 1, and is 4294967295";
+            assert_eq!(
+                copied("4294967295 1", "0 0 4294967295 1"),
+                Err(differs.into())
+            );
+            assert!(copied("4294967296 1", "0 0 0 0").is_err());
+            assert!(copied("0 1", "0 0 0 4294967296").is_err());
         }
     }
 

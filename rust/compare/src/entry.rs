@@ -5,7 +5,7 @@
 use crate::call::Call;
 use crate::library::{Function, Slots};
 use crate::report::Check;
-use reference::store::{CLOCK_LEN, NONCE_TAIL_LEN, STORE_LENS};
+use reference::store::{NONCE_TAIL_LEN, STORE_LENS};
 use reference::{Refusal, Start, BLOCK_LEN, KEY_LEN, MAX_COUNT, MAX_HEADER_LEN, MAX_MESSAGE_LEN};
 use reference::{MAX_STEPS, MRO, NONCE_LEN, OPP, ROUNDS, TAG_LEN};
 use std::ops::RangeInclusive;
@@ -34,8 +34,11 @@ pub enum Arg {
     Amount,
     Column,
     Means,
-    Clock,
+    Price,
+    Day,
     Total,
+    FoundAmount,
+    FoundPrice,
 }
 
 /// What an argument may be.
@@ -54,8 +57,8 @@ pub enum Kind {
     Room,
     /// Words with their count, at least as many as the run has.
     Run,
-    /// A number of 64 bits that the call may change.
-    Variable,
+    /// A number of so many bytes that the call may change.
+    Variable(usize),
 }
 
 impl Arg {
@@ -75,20 +78,19 @@ impl Arg {
             Self::Steps => Kind::Bytes(0..=MAX_STEPS),
             Self::Alpha | Self::Beta | Self::Gamma => Kind::Count(MAX_COUNT),
             Self::Store => Kind::Bytes(STORE_LENS),
-            Self::Machine | Self::Sale | Self::Amount => Kind::Number(u32::MAX),
-            Self::Column => Kind::Number(u16::MAX.into()),
+            Self::Machine | Self::Sale | Self::Amount | Self::Price => Kind::Number(u32::MAX),
+            Self::Column | Self::Day => Kind::Number(u16::MAX.into()),
             Self::Means => Kind::Number(u8::MAX.into()),
             Self::Tail => Kind::Fixed(NONCE_TAIL_LEN),
-            Self::Clock => Kind::Fixed(CLOCK_LEN),
-            Self::Total => Kind::Variable,
+            Self::Total => Kind::Variable(8),
+            Self::FoundAmount | Self::FoundPrice => Kind::Variable(4),
         }
     }
 
     /// Whether a buffer of `len` bytes can be lent at all, refused or not.
     pub fn can_be(self, len: usize) -> bool {
         match self.kind() {
-            Kind::Fixed(fixed) => len == fixed,
-            Kind::Variable => len == 8,
+            Kind::Fixed(fixed) | Kind::Variable(fixed) => len == fixed,
             Kind::Run => len % 8 == 0,
             _ => true,
         }

@@ -1,15 +1,15 @@
 //! Every set of grounds that can hold at once: the first in the order of the checks wins.
 
 use crate::call::Call;
-use crate::calls::{self, jump, on_store, walk, CANCEL, FORMAT, READ, TAKE, TOTAL};
+use crate::calls::{self, jump, on_store, walk, CANCEL, FORMAT, LOOK_UP, READ, TAKE, TOTAL};
 use crate::entry::Arg::{self, *};
 use crate::entry::Kind;
 use crate::library::{refusal, Library};
 use crate::met::Met;
 use crate::prng::Prng;
 use crate::report::{Check, Tally};
-use crate::stores::sound::{index, random_sale, set_index, HEADS, KIND_AT};
-use reference::store::{BODY_AT, CELL_LEN, SALE};
+use crate::stores::sound::{index, random_sale, set_index, HEADS, KINDS, KIND_AT};
+use reference::store::{BODY_AT, CELL_LEN};
 use reference::{settings, MRO, OPP, ROUNDS, TAG_LEN};
 
 /// A change of an argument that gives a ground, or says that it can't.
@@ -76,7 +76,8 @@ struct Run {
 }
 
 impl Run {
-    /// A store with sales in cells 2 and 1, in this order, and with cell 3 free.
+    /// A store with sales in cells 2 and 1, in this order, and with cell 3 free. The sale in cell 1, which
+    /// is named, is of either kind.
     fn stores(&mut self) {
         let key = self.prng.bytes(32);
         let [first, second, third] = [5, 6, 7].map(|sale| random_sale(&mut self.prng, 1, sale));
@@ -86,14 +87,18 @@ impl Run {
             let take = on_store(&TAKE, &key, &store[Store], sold);
             store = self.check.answers(&take, cell);
         }
-        for (entry, sold, answer) in [
-            (&FORMAT, &first, 0),
-            (&TAKE, &third, 3),
-            (&CANCEL, &first, first.amount.into()),
-            (&TOTAL, &first, 0),
-            (&READ, &first, (CELL_LEN + BODY_AT) as u64),
-        ] {
-            self.all_sets(&on_store(entry, &key, &store[Store], sold), answer);
+        for kind in KINDS {
+            store[Store][CELL_LEN + KIND_AT] = kind;
+            for (entry, sold, answer) in [
+                (&FORMAT, &first, 0),
+                (&TAKE, &third, 3),
+                (&CANCEL, &first, first.amount.into()),
+                (&TOTAL, &first, 0),
+                (&READ, &first, (CELL_LEN + BODY_AT) as u64),
+                (&LOOK_UP, &first, kind.into()),
+            ] {
+                self.all_sets(&on_store(entry, &key, &store[Store], sold), answer);
+            }
         }
     }
 
@@ -203,7 +208,7 @@ fn bad_index(prng: &mut Prng, call: &mut Call, store: Arg) -> bool {
 }
 
 fn bad_kind(prng: &mut Prng, call: &mut Call, store: Arg) -> bool {
-    call[store][CELL_LEN + KIND_AT] = prng.pick(&[0, 2, 3, 255]);
+    call[store][CELL_LEN + KIND_AT] = prng.pick(&[0, 3, 4, 255]);
     true
 }
 
@@ -224,13 +229,13 @@ fn bad_numbers(_: &mut Prng, call: &mut Call, machine: Arg) -> bool {
 }
 
 /// Cell 3 goes before the first sale.
-fn full(_: &mut Prng, call: &mut Call, store: Arg) -> bool {
+fn full(prng: &mut Prng, call: &mut Call, store: Arg) -> bool {
     let store = &mut call[store];
     let first = index(store, HEADS[0]);
     set_index(store, HEADS[0], 3);
     set_index(store, HEADS[1], 0);
     set_index(store, 3 * CELL_LEN, first);
-    store[3 * CELL_LEN + KIND_AT] = SALE;
+    store[3 * CELL_LEN + KIND_AT] = prng.pick(&KINDS);
     true
 }
 

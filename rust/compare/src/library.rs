@@ -67,7 +67,7 @@ callers! {
     c5(A B C D E)
     c6(A B C D E F)
     c7(A B C D E F G)
-    c11(A B C D E F G H I J K)
+    c8(A B C D E F G H)
     c12(A B C D E F G H I J K L)
     c14(A B C D E F G H I J K L M N)
 }
@@ -220,14 +220,20 @@ impl<'a> Taken<'a> for &'a mut [u8] {
     }
 }
 
-impl<'a> Taken<'a> for &'a mut [u64] {
-    fn taken(slots: &mut Slots<'a>) -> Self {
-        // SAFETY: any eight bytes are a word.
-        let (before, words, after) = unsafe { slots.next::<&mut [u8]>().align_to_mut() };
-        assert!(before.is_empty() && after.is_empty(), "no buffer of words");
-        words
-    }
+macro_rules! words {
+    ($($word:ty)*) => {$(
+        impl<'a> Taken<'a> for &'a mut [$word] {
+            fn taken(slots: &mut Slots<'a>) -> Self {
+                // SAFETY: any bytes, as many as a word has, are one.
+                let (before, words, after) = unsafe { slots.next::<&mut [u8]>().align_to_mut() };
+                assert!(before.is_empty() && after.is_empty(), "no buffer of words");
+                words
+            }
+        }
+    )*};
 }
+
+words! { u32 u64 }
 
 impl<'a, T: Taken<'a>, const N: usize> Taken<'a> for [T; N] {
     fn taken(slots: &mut Slots<'a>) -> Self {

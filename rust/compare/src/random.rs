@@ -91,8 +91,7 @@ fn value(prng: &mut Prng, arg: Arg) -> Value {
             (_, (min, max)) if min == max => exact_length_bytes(prng, max).into(),
             (_, (_, max)) => message(prng, max).into(),
         },
-        Kind::Fixed(len) => prng.bytes(len).into(),
-        Kind::Variable => prng.bytes(8).into(),
+        Kind::Fixed(len) | Kind::Variable(len) => prng.bytes(len).into(),
         Kind::Room | Kind::Run => Value::NONE,
     }
 }

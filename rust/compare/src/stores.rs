@@ -2,6 +2,7 @@
 
 pub mod damage;
 pub mod history;
+pub mod look_up;
 mod shapes;
 pub mod sound;
 pub mod ways;

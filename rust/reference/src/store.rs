@@ -15,14 +15,14 @@ pub const BODY_AT: usize = 3;
 pub const BODY_LEN: usize = CELL_LEN - BODY_AT;
 /// The kind of a free cell.
 pub const FREE: u8 = 0;
-/// The kind of a sale.
-pub const SALE: u8 = 1;
+/// The kind of a sale with a clock, as earlier units took it.
+pub const UNPRICED: u8 = 1;
+/// The kind of a sale with a price and a day.
+pub const PRICED: u8 = 2;
 /// The rounds under which records are sealed.
 pub const ROUNDS: u32 = 6;
 /// Bytes of a nonce behind the two numbers.
 pub const NONCE_TAIL_LEN: usize = 8;
-/// Bytes of a clock.
-pub const CLOCK_LEN: usize = 6;
 /// The means that the cash total counts.
 pub const COIN: u8 = 1;
 
@@ -57,8 +57,10 @@ pub struct Sale {
     pub column: u16,
     /// [`COIN`], or another.
     pub means: u8,
-    /// Carried unread.
-    pub clock: [u8; CLOCK_LEN],
+    /// The listed price, in cents.
+    pub price: u32,
+    /// The day's number, carried unread.
+    pub day: u16,
 }
 
 impl Sale {
@@ -69,13 +71,23 @@ impl Sale {
             &self.amount.to_le_bytes()[..],
             &self.column.to_le_bytes(),
             &[self.means],
-            &self.clock,
+            &self.price.to_le_bytes(),
+            &self.day.to_le_bytes(),
         ]
         .concat();
         let mut parcel = vec![0; RECORD_LEN + TAG_LEN];
         crate::seal(MRO, ROUNDS, key, &nonce, &[], &record, &mut parcel)?;
         Ok([nonce, parcel].concat())
     }
+}
+
+/// What [`look_up`] finds.
+#[derive(Clone, Copy, Debug, PartialEq, Eq)]
+pub struct Figures {
+    /// The amount taken, in cents.
+    pub amount: u32,
+    /// The listed price, in cents, where the sale has one.
+    pub price: Option<u32>,
 }
 
 /// What the nonce of a sale begins with.
@@ -88,6 +100,7 @@ pub fn format(store: &mut [u8]) -> Result<usize, Refusal> {
     check_length(store)?;
     let zeros = |number| Cell {
         number,
+        kind: FREE,
         body: vec![0; BODY_LEN],
     };
     let formatted = Store {
@@ -108,32 +121,40 @@ pub fn take(key: &[u8], store: &mut [u8], sale: &Sale) -> Result<usize, Refusal>
         (taken.free.is_empty(), FULL),
     ])?;
     let number = taken.free.remove(0).number;
-    let body = sale.seal(key)?;
-    taken.sales.insert(0, Cell { number, body });
+    let (kind, body) = (PRICED, sale.seal(key)?);
+    taken.sales.insert(0, Cell { number, kind, body });
     taken.write(store);
     Ok(number)
 }
 
 /// Frees the cell of a sale. Returns the amount.
 pub fn cancel(key: &[u8], store: &mut [u8], machine: u32, sale: u32) -> Result<u32, Refusal> {
-    check(&[key_ground(key)])?;
-    let mut cancelled = Store::parse(store)?;
-    let found = cancelled.find(machine, sale).ok_or((NUMBERS, 0))?;
-    let opened = cancelled.sales[found].open(key)?;
-    let mut cell = cancelled.sales.remove(found);
-    cell.body.fill(0);
-    cancelled.free.insert(0, cell);
+    let (mut cancelled, found, record) = Store::open(key, store, machine, sale)?;
+    let Cell { number, .. } = cancelled.sales.remove(found);
+    let (kind, body) = (FREE, vec![0; BODY_LEN]);
+    cancelled.free.insert(0, Cell { number, kind, body });
     cancelled.write(store);
-    Ok(opened.amount)
+    Ok(record.amount)
+}
+
+/// The amount of a sale and its price, if it has one. Checked as [`cancel`].
+pub fn look_up(key: &[u8], store: &[u8], machine: u32, sale: u32) -> Result<Figures, Refusal> {
+    let (sound, found, record) = Store::open(key, store, machine, sale)?;
+    let [a, b, c, d, ..] = record.rest;
+    let price = u32::from_le_bytes([a, b, c, d]);
+    Ok(Figures {
+        amount: record.amount,
+        price: (sound.sales[found].kind == PRICED).then_some(price),
+    })
 }
 
 /// The sum of the amounts of all sales whose means is coin.
 pub fn total(key: &[u8], store: &[u8]) -> Result<u64, Refusal> {
     check(&[key_ground(key)])?;
     let sales = Store::parse(store)?.sales;
-    let opened: Result<Vec<Opened>, Refusal> = sales.iter().map(|cell| cell.open(key)).collect();
-    let coins = opened?.into_iter().filter(|sale| sale.means == COIN);
-    Ok(coins.map(|sale| u64::from(sale.amount)).sum())
+    let records: Result<Vec<Record>, Refusal> = sales.iter().map(|cell| cell.open(key)).collect();
+    let coins = records?.into_iter().filter(|record| record.means == COIN);
+    Ok(coins.map(|record| u64::from(record.amount)).sum())
 }
 
 /// The offset in the store at which the body of a sale begins.
@@ -154,25 +175,32 @@ struct Store {
 /// A cell of a list. Nothing is asked of the body of a free one.
 struct Cell {
     number: usize,
+    kind: u8,
     body: Vec<u8>,
 }
 
-/// What the store needs of an opened record.
-struct Opened {
+/// An opened record, but for its column.
+struct Record {
     amount: u32,
     means: u8,
+    /// By the cell's kind a clock, or a price and a day.
+    rest: [u8; 6],
 }
 
 impl Cell {
     /// Refused with this cell where the tag differs.
-    fn open(&self, key: &[u8]) -> Result<Opened, Refusal> {
+    fn open(&self, key: &[u8]) -> Result<Record, Refusal> {
         let (nonce, parcel) = self.body.split_at(NONCE_LEN);
         let mut record = [0; RECORD_LEN];
         crate::open(MRO, ROUNDS, key, nonce, &[], parcel, &mut record)
             .map_err(|(refused, _)| (refused, self.number as u32))?;
-        let [a, b, c, d, _, _, means, ..] = record;
+        let [a, b, c, d, _, _, means, rest @ ..] = record;
         let amount = u32::from_le_bytes([a, b, c, d]);
-        Ok(Opened { amount, means })
+        Ok(Record {
+            amount,
+            means,
+            rest,
+        })
     }
 }
 
@@ -182,12 +210,27 @@ impl Store {
         let cells = Cells::parse(bytes);
         let [sales, free] = [0, 2].map(|head| cells.walk(index(&bytes[head..])));
         check_cell(INDEX, cells.first_stray(&[&sales[..], &free].concat()))?;
-        check_cell(KIND, cells.first_unfit([(SALE, &sales), (FREE, &free)]))?;
+        let walks = [(&[UNPRICED, PRICED][..], &sales[..]), (&[FREE], &free)];
+        check_cell(KIND, cells.first_unfit(walks))?;
         Ok(Self {
             rest: bytes[HEADS_LEN..CELL_LEN].to_vec(),
             sales: cells.list(sales),
             free: cells.list(free),
         })
+    }
+
+    /// The store, where in its list of sales the first one of these numbers is, and its record.
+    fn open(
+        key: &[u8],
+        bytes: &[u8],
+        machine: u32,
+        sale: u32,
+    ) -> Result<(Self, usize, Record), Refusal> {
+        check(&[key_ground(key)])?;
+        let store = Self::parse(bytes)?;
+        let found = store.find(machine, sale).ok_or((NUMBERS, 0))?;
+        let record = store.sales[found].open(key)?;
+        Ok((store, found, record))
     }
 
     /// Where in the list of sales the first one of these numbers is.
@@ -203,10 +246,10 @@ impl Store {
         let heads = [head(&self.sales), head(&self.free)].concat();
         let mut cells = vec![[heads, self.rest.clone()].concat()];
         cells.resize(bytes.len() / CELL_LEN, Vec::new());
-        for (kind, list) in [(SALE, &self.sales), (FREE, &self.free)] {
+        for list in [&self.sales, &self.free] {
             let nexts = list.iter().skip(1).map(|cell| cell.number).chain(once(0));
             for (cell, next) in list.iter().zip(nexts) {
-                cells[cell.number] = [&two_bytes(next)[..], &[kind], &cell.body].concat();
+                cells[cell.number] = [&two_bytes(next)[..], &[cell.kind], &cell.body].concat();
             }
         }
         bytes.copy_from_slice(&cells.concat());
@@ -257,15 +300,16 @@ impl<'a> Cells<'a> {
         again.chain(past).min().map(|place| steps[place].0)
     }
 
-    /// The first cell that is not, with the kind it has, among those that the two walks came to.
-    fn first_unfit(&self, walks: [(u8, &[Step]); 2]) -> Option<usize> {
-        let pairs = |(kind, steps): (u8, &[Step])| -> Vec<(usize, u8)> {
-            steps.iter().map(|&(_, index)| (index, kind)).collect()
-        };
-        let mut reached: Vec<(usize, u8)> = walks.into_iter().flat_map(pairs).collect();
-        reached.sort_unstable();
+    /// The first cell that neither walk came to, or whose kind is none of those of the walk that did.
+    fn first_unfit(&self, walks: [(&[u8], &[Step]); 2]) -> Option<usize> {
+        let mut fitting: Vec<(usize, u8)> = Vec::new();
+        for (kinds, steps) in walks {
+            let pairs = |&(_, index): &Step| kinds.iter().map(move |&kind| (index, kind));
+            fitting.extend(steps.iter().flat_map(pairs));
+        }
+        fitting.sort_unstable();
         let fits = |number: usize| {
-            reached
+            fitting
                 .binary_search(&(number, self.0[number].kind))
                 .is_ok()
         };
@@ -275,6 +319,7 @@ impl<'a> Cells<'a> {
     fn list(&self, walk: Vec<Step>) -> Vec<Cell> {
         let cell = |(_, number): Step| Cell {
             number,
+            kind: self.0[number].kind,
             body: self.0[number].body.to_vec(),
         };
         walk.into_iter().map(cell).collect()

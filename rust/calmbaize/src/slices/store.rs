@@ -5,7 +5,7 @@
 //! first wrong one) and its kinds (20, with the first cell that is wrong).
 
 use super::value;
-use crate::{ffi, Refusal, Sale, NONCE_TAIL_LEN};
+use crate::{ffi, LookUp, Refusal, Sale, NONCE_TAIL_LEN};
 
 /// Makes `store` one with no sale: every cell free, chained upward from 1.
 ///
@@ -43,8 +43,9 @@ pub fn format(store: &mut [u8]) -> Result<(), Refusal> {
 ///
 /// let mut bytes = [0; 128];
 /// store::format(&mut bytes)?;
-/// let sale =
-///     Sale { machine: 11, sale: 1, amount: 150, column: 4, means: MEANS_COIN, clock: [0; 6] };
+/// let sale = Sale {
+///     machine: 11, sale: 1, amount: 150, column: 4, means: MEANS_COIN, price: 149, day: 320,
+/// };
 /// assert_eq!(store::take(&[7; 32], &mut bytes, &[0; 8], &sale), Ok(1));
 /// let again = store::take(&[7; 32], &mut bytes, &[1; 8], &sale);
 /// assert_eq!(again, Err(Ground::SaleNumbers.into()));
@@ -56,10 +57,9 @@ pub fn take(
     nonce_tail: &[u8; NONCE_TAIL_LEN],
     sale: &Sale,
 ) -> Result<u32, Refusal> {
-    let (nonce_tail, clock) = (nonce_tail.as_ptr(), sale.clock.as_ptr());
     ffi::decode(call!(
         calmbaize_store_take; &key, &mut store, sale.machine, sale.sale,
-        nonce_tail, sale.amount, sale.column, sale.means, clock
+        nonce_tail.as_ptr(), sale.amount, sale.column, sale.means, sale.price, sale.day
     ))
 }
 
@@ -80,8 +80,9 @@ pub fn take(
 ///
 /// let mut bytes = [0; 128];
 /// store::format(&mut bytes)?;
-/// let sale =
-///     Sale { machine: 11, sale: 1, amount: 150, column: 4, means: MEANS_COIN, clock: [0; 6] };
+/// let sale = Sale {
+///     machine: 11, sale: 1, amount: 150, column: 4, means: MEANS_COIN, price: 149, day: 320,
+/// };
 /// store::take(&[7; 32], &mut bytes, &[0; 8], &sale)?;
 /// let refusal = store::cancel(&[8; 32], &mut bytes, 11, 1).unwrap_err();
 /// assert_eq!((refusal.ground, refusal.place), (Ground::Tag, 1));
@@ -107,8 +108,9 @@ pub fn cancel(key: &[u8], store: &mut [u8], machine: u32, sale: u32) -> Result<u
 ///
 /// let mut bytes = [0; 256];
 /// store::format(&mut bytes)?;
-/// let coin =
-///     Sale { machine: 11, sale: 1, amount: 150, column: 4, means: MEANS_COIN, clock: [0; 6] };
+/// let coin = Sale {
+///     machine: 11, sale: 1, amount: 150, column: 4, means: MEANS_COIN, price: 149, day: 320,
+/// };
 /// store::take(&[7; 32], &mut bytes, &[0; 8], &coin)?;
 /// store::take(&[7; 32], &mut bytes, &[0; 8], &Sale { sale: 2, means: MEANS_CARD, ..coin })?;
 /// assert_eq!(store::total(&[7; 32], &bytes), Ok(150));
@@ -135,8 +137,9 @@ pub fn total(key: &[u8], store: &[u8]) -> Result<u64, Refusal> {
 ///
 /// let mut bytes = [0; 128];
 /// store::format(&mut bytes)?;
-/// let sale =
-///     Sale { machine: 11, sale: 1, amount: 150, column: 4, means: MEANS_COIN, clock: [0; 6] };
+/// let sale = Sale {
+///     machine: 11, sale: 1, amount: 150, column: 4, means: MEANS_COIN, price: 149, day: 320,
+/// };
 /// store::take(&[7; 32], &mut bytes, &[0; 8], &sale)?;
 /// assert_eq!(store::read(&bytes, 11, 1), Ok(67));
 /// assert_eq!(store::read(&bytes, 11, 2), Err(Ground::SaleNumbers.into()));
@@ -144,4 +147,35 @@ pub fn total(key: &[u8], store: &[u8]) -> Result<u64, Refusal> {
 /// ```
 pub fn read(store: &[u8], machine: u32, sale: u32) -> Result<usize, Refusal> {
     value(call!(calmbaize_store_read; &store, machine, sale))
+}
+
+/// Amount and listed price of a sale in `store`, of two alike the first in the chain.
+///
+/// # Errors
+///
+/// Those of [`cancel`].
+///
+/// # Examples
+///
+/// ```
+/// use calmbaize::{slices::store, Ground, LookUp, Refusal, Sale, MEANS_COIN};
+///
+/// let mut bytes = [0; 128];
+/// store::format(&mut bytes)?;
+/// let sale = Sale {
+///     machine: 11, sale: 1, amount: 150, column: 4, means: MEANS_COIN, price: 149, day: 320,
+/// };
+/// store::take(&[7; 32], &mut bytes, &[0; 8], &sale)?;
+/// let both = LookUp::Priced { amount: 150, price: 149 };
+/// assert_eq!(store::look_up(&[7; 32], &bytes, 11, 1), Ok(both));
+/// let refusal = store::look_up(&[8; 32], &bytes, 11, 1).unwrap_err();
+/// assert_eq!((refusal.ground, refusal.place), (Ground::Tag, 1));
+/// # Ok::<(), Refusal>(())
+/// ```
+pub fn look_up(key: &[u8], store: &[u8], machine: u32, sale: u32) -> Result<LookUp, Refusal> {
+    let (mut amount, mut price) = (0, 0);
+    let answer = call!(
+        calmbaize_store_look_up; &key, &store, machine, sale, &raw mut amount, &raw mut price
+    );
+    ffi::decode_look_up(answer, amount, price)
 }

@@ -5,8 +5,8 @@ use calmbaize::{CELL_LEN, MAX_STORE_LEN, MIN_STORE_LEN};
 
 pub const GENERAL: &str = "\
 Keeps sealed sales in a file. It has cells of 64 bytes, each but the first for
-one sale. Machine and sale numbers stand there in the clear; the rest of a sale
-is sealed.
+one sale. Machine and sale numbers stand there in the clear, and so does whether
+a sale has a price; the rest is sealed.
 
 usage: calmbaize store COMMAND FILE [OPTIONS]
 
@@ -14,6 +14,7 @@ commands:
   format  make a store with no sale
   take    seal a sale into the store and print its cell
   cancel  take a sale out and print its amount
+  price   print the amount and the listed price of a sale
   total   print the cash total
   read    print a sale as it is sealed, and opened
   list    print all sales, the last one taken first
@@ -37,7 +38,10 @@ const NUMBERS: &str = "      --machine NUMBER     machine number, up to 4,294,96
 
 const FIELDS: &str = "\
 The fields are printed as words and values, such as
-machine 11 sale 1 amount 150 column 4 means coin clock 000000000000
+machine 11 sale 1 amount 150 column 4 means coin price 149 day 320
+A sale of a version before 0.8.0 has a clock instead of price and day, such as
+machine 11 sale 1 amount 150 column 4 means coin clock e80701020304
+Which of the two it has is not sealed: see price.
 ";
 
 pub fn format() -> String {
@@ -68,11 +72,12 @@ with the same machine and sale number must not be there.
 usage: calmbaize store take FILE OPTIONS
 
 options:
-{key}{NUMBERS}      --amount CENTS       amount in cents, up to 4,294,967,295
+{key}{NUMBERS}      --amount CENTS       amount taken, in cents, up to 4,294,967,295
       --column NUMBER      column, up to 65,535
       --means MEANS        coin, card or 0 to 255; coin is 1 and card 2
-      --clock HEX          six bytes as the machine's clock gives them; they are
-                           carried and not read [zeros]
+      --price CENTS        listed price in cents, up to 4,294,967,295
+      --day NUMBER         day as the machine counts them, up to 65,535; it is
+                           carried and not read [0]
       --nonce-tail HEX     the last eight bytes of the sale's nonce [random]
 {HELP}"
     )
@@ -82,9 +87,29 @@ pub fn cancel() -> String {
     let key = key();
     format!(
         "\
-Takes a sale out of a store and prints its amount in cents.
+Takes a sale out of a store and prints its amount in cents, never its price.
 
 usage: calmbaize store cancel FILE OPTIONS
+
+options:
+{key}{NUMBERS}{HELP}"
+    )
+}
+
+pub fn price() -> String {
+    let key = key();
+    format!(
+        "\
+Prints what was taken for a sale and its listed price, in cents, such as
+amount 150 price 149
+
+A sale of a version before 0.8.0 has no price, which is not a price of 0:
+amount 150 no price
+
+The byte that tells the two apart is not sealed. Where it was changed in FILE, a
+clock is printed as a price, or a price not at all; the amount is as it was.
+
+usage: calmbaize store price FILE OPTIONS
 
 options:
 {key}{NUMBERS}{HELP}"

@@ -35,11 +35,12 @@ fn check(name: &str, bytes: &[u8]) -> (String, Option<i32>) {
 
 #[test]
 fn a_store_that_is_right() {
-    let some = store([3, 2], &[(0, 1), (4, 0), (1, 1), (0, 0)]);
+    let some = store([3, 2], &[(0, 1), (4, 0), (1, 2), (0, 0)]);
     for (bytes, counts) in [
         (some, "cells 5 sales 2 free 2\n"),
         (store([0, 1], &[(0, 0)]), "cells 2 sales 0 free 1\n"),
         (store([1, 0], &[(0, 1)]), "cells 2 sales 1 free 0\n"),
+        (store([1, 0], &[(0, 2)]), "cells 2 sales 1 free 0\n"),
     ] {
         assert_eq!(check("right", &bytes), (counts.into(), Some(0)));
     }
@@ -47,7 +48,7 @@ fn a_store_that_is_right() {
 
 /// Stores of four cells, and what is said of them. Right would be [1, 2] and (0, 1), (3, 0), (0, 0).
 #[rustfmt::skip]
-const BROKEN: [([u16; 2], [Cell; 3], &str); 12] = [
+const BROKEN: [([u16; 2], [Cell; 3], &str); 13] = [
     ([4, 2], [(0, 1), (3, 0), (0, 0)],
      "19: the first sale's index in cell 0 (bytes 0 and 1) is 4, and the last cell is 3"),
     ([1, 513], [(0, 1), (3, 0), (0, 0)],
@@ -64,6 +65,8 @@ const BROKEN: [([u16; 2], [Cell; 3], &str); 12] = [
      "19: the next index in cell 3 (bytes 0 and 1) is 1, and cell 1 was reached before"),
     ([1, 2], [(0, 0), (3, 0), (0, 0)],
      "20: cell 1 is among the sales; its kind (byte 2) is 0, which is not a sale's"),
+    ([1, 2], [(0, 3), (3, 0), (0, 0)],
+     "20: cell 1 is among the sales; its kind (byte 2) is 3, which is not a sale's"),
     ([1, 2], [(0, 1), (3, 0), (0, 255)],
      "20: cell 3 is among the free cells; its kind (byte 2) is 255, which is not a free cell's"),
     ([1, 2], [(0, 1), (0, 0), (0, 0)],
@@ -181,8 +184,8 @@ fn the_words_agree_with_number_and_cell() {
             assert_eq!(says("among the free"), free.contains(&place), "{text}");
         }
     }
-    // Every order of three cells, cut in two.
-    assert_eq!(met[0], 6 * 4);
+    // Every order of three cells, cut in two, with two kinds for each sale.
+    assert_eq!(met[0], 6 * (1 + 2 + 4 + 8));
     assert!(met[1] > 0 && met[2] > 0);
 }
 

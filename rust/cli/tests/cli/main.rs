@@ -4,6 +4,7 @@ mod check;
 mod convert;
 mod engine;
 mod files;
+mod price;
 mod progress;
 mod store;
 mod thousand;

@@ -8,44 +8,44 @@ use std::path::{Path, PathBuf};
 use std::process::{Command, Stdio};
 
 /// A store in a folder of its own.
-struct Till {
+pub struct Till {
     folder: PathBuf,
-    file: String,
+    pub file: String,
 }
 
 impl Till {
-    fn new(name: &str) -> Self {
+    pub fn new(name: &str) -> Self {
         let folder = folder(name);
         let file = folder.join("till").to_str().unwrap().to_string();
         Self { folder, file }
     }
 
-    fn formatted(name: &str, cells: u32) -> Self {
+    pub fn formatted(name: &str, cells: u32) -> Self {
         let till = Self::new(name);
         let cells = cells.to_string();
         assert_eq!(till.text(&["format", "--cells", &cells]), "");
         till
     }
 
-    fn args<'a>(&'a self, command: &[&'a str]) -> Vec<&'a str> {
+    pub fn args<'a>(&'a self, command: &[&'a str]) -> Vec<&'a str> {
         [&["store", command[0], &self.file], &command[1..]].concat()
     }
 
     /// With the key.
-    fn keyed<'a>(&'a self, command: &[&'a str]) -> Vec<&'a str> {
+    pub fn keyed<'a>(&'a self, command: &[&'a str]) -> Vec<&'a str> {
         [&self.args(command)[..], &["--key", KEY]].concat()
     }
 
-    fn text(&self, command: &[&str]) -> String {
+    pub fn text(&self, command: &[&str]) -> String {
         String::from_utf8(succeeds(&self.args(command), b"")).unwrap()
     }
 
-    fn keyed_text(&self, command: &[&str]) -> String {
+    pub fn keyed_text(&self, command: &[&str]) -> String {
         String::from_utf8(succeeds(&self.keyed(command), b"")).unwrap()
     }
 
     /// Refused with a number, which leaves the file as it was and nothing beside it.
-    fn refuses(&self, args: &[&str], number: u32) -> String {
+    pub fn refuses(&self, args: &[&str], number: u32) -> String {
         let before = fs::read(&self.file).ok();
         let left = names(&self.folder).len();
         let error = fails(args, b"", 1);
@@ -57,7 +57,7 @@ impl Till {
     }
 
     /// The options of a sale.
-    fn take(&self, sale: &str, amount: &str, means: &str) -> String {
+    pub fn take(&self, sale: &str, amount: &str, means: &str) -> String {
         self.keyed_text(&sale_options(sale, amount, means))
     }
 
@@ -69,7 +69,7 @@ impl Till {
 fn sale_options<'a>(sale: &'a str, amount: &'a str, means: &'a str) -> Vec<&'a str> {
     let machine = ["take", "--machine", "11", "--column", "4"];
     let rest = ["--sale", sale, "--amount", amount, "--means", means];
-    [&machine[..], &rest].concat()
+    [&machine[..], &rest, &["--price", "149"]].concat()
 }
 
 #[test]
@@ -91,9 +91,9 @@ fn a_day_at_a_machine() {
     assert_eq!(till.take("2", "20", "255"), "2\n");
     assert_eq!(
         till.keyed_text(&["list"]),
-        "cell 2 machine 11 sale 2 amount 20 column 4 means 255 clock 000000000000\n\
-         cell 3 machine 11 sale 3 amount 410 column 4 means card clock 000000000000\n\
-         cell 1 machine 11 sale 1 amount 150 column 4 means coin clock 000000000000\n"
+        "cell 2 machine 11 sale 2 amount 20 column 4 means 255 price 149 day 0\n\
+         cell 3 machine 11 sale 3 amount 410 column 4 means card price 149 day 0\n\
+         cell 1 machine 11 sale 1 amount 150 column 4 means coin price 149 day 0\n"
     );
     assert_eq!(names(&till.folder), ["till"]);
 }
@@ -108,12 +108,13 @@ fn every_field_is_kept() {
         "--amount=4294967294",
         "--column=65535",
         "--means=2",
-        "--clock=e80701020304",
+        "--price=4294967293",
+        "--day=65534",
         "--nonce-tail=2122232425262728",
     ];
     assert_eq!(till.keyed_text(&take), "1\n");
     let fields = "machine 4294967295 sale 16909060 amount 4294967294 column 65535 \
-                  means card clock e80701020304\n";
+                  means card price 4294967293 day 65534\n";
     let sale = ["--machine=4294967295", "--sale=16909060"];
     let read = [&["read"], &sale[..]].concat();
     let hex = till.text(&read);
@@ -231,6 +232,7 @@ fn what_is_no_store_is_refused() {
         let calls = [
             till.keyed(&sale_options("1", "150", "coin")),
             [&till.keyed(&["cancel"])[..], &named].concat(),
+            [&till.keyed(&["price"])[..], &named].concat(),
             till.keyed(&["total"]),
             [&till.args(&["read"])[..], &named].concat(),
             till.args(&["list"]),
@@ -264,8 +266,10 @@ fn sales_that_wont_open() {
     }
     fs::write(&till.file, bytes).unwrap();
     let named = ["--machine", "11", "--sale", "1"];
-    let error = till.refuses(&[&till.keyed(&["cancel"])[..], &named].concat(), 9);
-    assert!(error.ends_with("tag differs in cell 1\n"), "{error}");
+    for command in ["cancel", "price"] {
+        let error = till.refuses(&[&till.keyed(&[command])[..], &named].concat(), 9);
+        assert!(error.ends_with("tag differs in cell 1\n"), "{error}");
+    }
     let error = till.refuses(&till.keyed(&["total"]), 9);
     assert!(error.ends_with("tag differs in cell 2\n"), "{error}");
     till.refuses(&[&till.keyed(&["read"])[..], &named].concat(), 9);
@@ -276,7 +280,7 @@ fn sales_that_wont_open() {
     let text = String::from_utf8(list.stdout).unwrap();
     assert_eq!(
         text,
-        "cell 3 machine 11 sale 3 amount 150 column 4 means coin clock 000000000000\n\
+        "cell 3 machine 11 sale 3 amount 150 column 4 means coin price 149 day 0\n\
          cell 2 machine 11 sale 2 won't open\n\
          cell 1 machine 11 sale 1 won't open\n"
     );

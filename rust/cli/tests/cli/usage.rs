@@ -3,7 +3,7 @@
 use crate::{fails, run, sealing, succeeds, KEY, NONCE};
 use calmbaize::Rounds;
 
-const COMMANDS: [&[&str]; 12] = [
+const COMMANDS: [&[&str]; 13] = [
     &["seal"],
     &["open"],
     &["convert"],
@@ -12,6 +12,7 @@ const COMMANDS: [&[&str]; 12] = [
     &["store", "format"],
     &["store", "take"],
     &["store", "cancel"],
+    &["store", "price"],
     &["store", "total"],
     &["store", "read"],
     &["store", "list"],
@@ -24,7 +25,7 @@ fn help(command: &[&str]) -> String {
 }
 
 /// Arguments, and what the error says.
-const WRONG: [(&[&str], &str); 40] = [
+const WRONG: [(&[&str], &str); 44] = [
     (&[], "no command"),
     (&["wrap"], "unknown command 'wrap'"),
     (&["seal"], "--key or --key-file is needed"),
@@ -108,6 +109,16 @@ const WRONG: [(&[&str], &str); 40] = [
     ),
     (&["store", "total", "a"], "--key or --key-file is needed"),
     (&["store", "cancel", "a", "--sale=1"], "--machine is needed"),
+    (&["store", "price"], "FILE is needed"),
+    (&["store", "price", "a", "--machine=1"], "--sale is needed"),
+    (
+        &["store", "price", "a", "--machine=1", "--sale=1"],
+        "--key or --key-file is needed; see 'calmbaize store price --help'",
+    ),
+    (
+        &["store", "take", "a", "--clock=000000000000"],
+        "unknown option '--clock'",
+    ),
     (&["store", "read", "a", "--machine=1"], "--sale is needed"),
     (
         &["store", "read", "a", "--machine=1", "--sale=4294967296"],
@@ -203,6 +214,7 @@ fn fields_of_a_sale() {
         "--amount=150",
         "--column=4",
         "--means=coin",
+        "--price=149",
         "--key=00",
     ];
     let take = |options: &[&str]| fails(&[&["store", "take", "FILE"], options].concat(), b"", 2);
@@ -224,7 +236,12 @@ fn fields_of_a_sale() {
         ),
         ("--means=cash", "--means is coin, card or 0 to 255"),
         ("--means=256", "--means is coin, card or 0 to 255"),
-        ("--clock=0102030405", "the value of --clock is not 6 bytes"),
+        (
+            "--price=4294967296",
+            "the value of --price is not a number in range",
+        ),
+        ("--price=", "the value of --price is not a number in range"),
+        ("--day=65536", "the value of --day is not a number in range"),
         (
             "--nonce-tail=000102030405060708",
             "the value of --nonce-tail is not 8 bytes",

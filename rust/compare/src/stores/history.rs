@@ -1,15 +1,17 @@
-//! Histories of a store: thousands of calls from a format on, held against a ledger.
+//! Histories of a store: thousands of calls from a format on, or on what another unit left, held against
+//! a ledger.
 
 use crate::call::Call;
-use crate::calls::{self, on_numbers, on_store, CANCEL, FORMAT, READ, TAKE, TOTAL};
+use crate::calls::{self, on_numbers, on_store, CANCEL, FORMAT, LOOK_UP, READ, TAKE, TOTAL};
 use crate::entry::Arg::{Key, Store, Total};
 use crate::entry::Entry;
 use crate::library::{refusal, Library};
 use crate::met::Met;
 use crate::prng::Prng;
 use crate::report::{Check, Tally};
-use crate::stores::sound::{random_sale, set_index, KIND_AT};
-use reference::store::{Sale, BODY_AT, CELL_LEN, COIN};
+use crate::stores::look_up;
+use crate::stores::sound::{coins, random_sale, sealed, set_index, Sound, KIND_AT, SALES};
+use reference::store::{Sale, BODY_AT, CELL_LEN, PRICED};
 
 /// Cells of the stores that get sales under one key.
 const ONE_KEY: [usize; 16] = [
@@ -18,7 +20,7 @@ const ONE_KEY: [usize; 16] = [
 /// Cells of the stores that get sales under several.
 const SEVERAL_KEYS: [usize; 8] = [2, 3, 5, 9, 17, 65, 256, 1023];
 
-/// A history for each size. The ledger says what each call has to answer.
+/// Two histories for each size. The ledger says what each call has to answer.
 pub fn run(library: Library, seed: u64) -> Tally {
     let mut prng = Prng::new(seed);
     let mut check = Check::new(library);
@@ -26,16 +28,19 @@ pub fn run(library: Library, seed: u64) -> Tally {
     let one = ONE_KEY.map(|cells| (cells, 1));
     let several = SEVERAL_KEYS.map(|cells| (cells, 3));
     for (cells, keys) in one.into_iter().chain(several) {
-        History::new(&mut prng, &mut check, &mut met, cells, keys).live();
+        let mut history = History::new(&mut prng, &mut check, &mut met, cells, keys);
+        history.live();
+        history.carry_on();
     }
     met.show();
     met.all(&mut check.tally);
     check.tally
 }
 
-/// A sale that was taken.
+/// A sale that was taken, or was there from the beginning.
 struct Line {
     sold: Sale,
+    kind: u8,
     key: usize,
     cell: u32,
 }
@@ -47,7 +52,7 @@ struct History<'a> {
     /// The keys that sales are taken under, and behind them one that none is.
     keys: Vec<Vec<u8>>,
     store: Vec<u8>,
-    /// The sales not cancelled, the last one taken first.
+    /// The sales not cancelled in the order of their chain, the last one taken first.
     ledger: Vec<Line>,
 }
 
@@ -69,7 +74,7 @@ impl<'a> History<'a> {
         }
     }
 
-    /// Fills the store, works on it, empties it and works on it again.
+    /// Formats the store, fills it, works on it, empties it and works on it again.
     fn live(&mut self) {
         let cells = self.cells();
         self.format();
@@ -91,16 +96,27 @@ impl<'a> History<'a> {
         self.total();
     }
 
+    /// Works on a store that another unit left. Under one key, total accepts it.
+    fn carry_on(&mut self) {
+        self.inherit();
+        self.total();
+        for _ in 0..self.cells() / 2 + 50 {
+            self.call(45);
+        }
+        self.total();
+    }
+
     fn cells(&self) -> usize {
         self.store.len() / CELL_LEN
     }
 
-    /// A call: `takes` of a hundred are take, ten read, and the others cancel. Now and then a total,
-    /// oftener the fewer cells there are.
+    /// A call: `takes` of a hundred are take, five read, ten look_up, and the others cancel. Now and then a
+    /// total, oftener the fewer cells there are.
     fn call(&mut self, takes: usize) {
         match self.prng.below(100) {
-            0..10 => self.read(),
-            n if n < 10 + takes => self.take(),
+            0..5 => self.read(),
+            5..15 => self.look_up(),
+            n if n < 15 + takes => self.take(),
             _ => self.cancel(),
         }
         if self.prng.once_in(1 + self.cells() / 8) {
@@ -135,6 +151,29 @@ impl<'a> History<'a> {
         self.ledger.clear();
     }
 
+    /// The store becomes another, its sales of both kinds or of one, and now and then two of them alike.
+    fn inherit(&mut self) {
+        let (cells, sales) = (self.cells(), self.prng.below(self.cells()));
+        let mut store = Sound::random(self.prng, cells, sales);
+        for n in 0..sales {
+            let key = self.prng.below(self.keys.len() - 1);
+            if self.prng.once_in(10) {
+                let Sale { machine, sale, .. } = store.sold[self.prng.below(sales)];
+                store.sold[n] = random_sale(self.prng, machine, sale);
+            }
+            let (sold, cell) = (store.sold[n], store.chains[SALES][n]);
+            let body = sealed(&self.keys[key], &sold);
+            store.body_mut(cell).copy_from_slice(&body);
+            self.ledger.push(Line {
+                sold,
+                kind: *store.kind_mut(cell),
+                key,
+                cell: cell as u32,
+            });
+        }
+        self.store = store.bytes;
+    }
+
     fn take(&mut self) {
         let numbers = self.numbers();
         let sold = random_sale(self.prng, numbers.0, numbers.1);
@@ -157,8 +196,14 @@ impl<'a> History<'a> {
         let free = (1..self.cells() as u64).contains(&answer) && !taken;
         self.check
             .record(free, || format!("{call}: the sale is in cell {answer:#x}"));
-        let cell = answer as u32;
-        self.ledger.insert(0, Line { sold, key, cell });
+        let (kind, cell) = (PRICED, answer as u32);
+        let line = Line {
+            sold,
+            kind,
+            key,
+            cell,
+        };
+        self.ledger.insert(0, line);
         self.store = after[Store].clone();
     }
 
@@ -166,21 +211,30 @@ impl<'a> History<'a> {
         let numbers = self.numbers_often_there();
         let key = self.key_for(numbers);
         let call = self.on(&CANCEL, key, numbers);
-        let Some(at) = self.line(numbers) else {
-            self.answers(&call, refusal(16, 0));
-            return;
-        };
-        let line = &self.ledger[at];
-        if line.key != key {
-            self.answers(&call, refusal(9, line.cell));
-            return;
+        match self.opened(key, numbers) {
+            Ok(at) => {
+                let after = self.answers(&call, self.ledger[at].sold.amount.into());
+                self.store = after[Store].clone();
+                self.ledger.remove(at);
+            }
+            Err(refused) => drop(self.answers(&call, refused)),
         }
-        let after = self.answers(&call, line.sold.amount.into());
-        self.store = after[Store].clone();
-        self.ledger.remove(at);
     }
 
-    /// The cash total is the sum of the ledger's coins, unless a sale is under another key.
+    fn look_up(&mut self) {
+        let numbers = self.numbers_often_there();
+        let key = self.key_for(numbers);
+        let call = self.on(&LOOK_UP, key, numbers);
+        let at = match self.opened(key, numbers) {
+            Ok(at) => at,
+            Err(refused) => return drop(self.answers(&call, refused)),
+        };
+        let Line { sold, kind, .. } = self.ledger[at];
+        let after = self.answers(&call, kind.into());
+        look_up::finds(self.check, &call, &after, &sold, kind);
+    }
+
+    /// The cash total is the sum of the ledger's coins, of both kinds, unless a sale is under another key.
     fn total(&mut self) {
         let key = self.prng.below(self.keys.len());
         let key = if self.prng.once_in(8) { key } else { 0 };
@@ -190,8 +244,7 @@ impl<'a> History<'a> {
             self.answers(&call, refusal(9, cell));
             return;
         }
-        let coins = self.ledger.iter().filter(|line| line.sold.means == COIN);
-        let cash: u64 = coins.map(|line| u64::from(line.sold.amount)).sum();
+        let cash = coins(self.ledger.iter().map(|line| &line.sold));
         let total = &self.answers(&call, 0)[Total];
         self.check.record(*total == cash.to_ne_bytes(), || {
             format!("{call}: the total is {total:x?}, the ledger's {cash}")
@@ -221,7 +274,7 @@ impl<'a> History<'a> {
         set_index(&mut past, CELL_LEN * last as usize, self.cells());
         let cell = 1 + self.prng.below(self.cells() - 1);
         let mut misfit = self.store.clone();
-        misfit[CELL_LEN * cell + KIND_AT] = 2;
+        misfit[CELL_LEN * cell + KIND_AT] = self.prng.pick(&[3, 4, 255]);
         let broken = [(part, 18, 0), (past, 19, last), (misfit, 20, cell as u32)];
         for entry in calls::of_store() {
             let on = |key: &[u8], store: &[u8]| on_store(entry, key, store, &sold);
@@ -236,6 +289,15 @@ impl<'a> History<'a> {
                     self.answers(&on(&key, store), refusal(3, 0));
                 }
             }
+        }
+    }
+
+    /// Where in the ledger the sale is that a call under a key opens, or how that is refused.
+    fn opened(&self, key: usize, numbers: (u32, u32)) -> Result<usize, u64> {
+        let at = self.line(numbers).ok_or(refusal(16, 0))?;
+        match &self.ledger[at] {
+            line if line.key == key => Ok(at),
+            line => Err(refusal(9, line.cell)),
         }
     }
 

@@ -4,7 +4,7 @@ use crate::call::Call;
 use crate::calls::{of_store, on_store};
 use crate::entry::Arg;
 use crate::prng::Prng;
-use reference::store::{self, Sale, BODY_AT, BODY_LEN, CELL_LEN, ROUNDS, SALE};
+use reference::store::{self, Sale, BODY_AT, BODY_LEN, CELL_LEN, COIN, PRICED, ROUNDS, UNPRICED};
 use reference::{seal_under, Start, MRO, NONCE_LEN};
 
 /// Where in a cell its kind is.
@@ -14,8 +14,8 @@ pub const HEADS: [usize; 2] = [0, 2];
 /// The numbers of the two chains.
 pub const SALES: usize = 0;
 pub const FREE: usize = 1;
-/// The kinds of the two chains.
-const KINDS: [u8; 2] = [SALE, store::FREE];
+/// The kinds of sales.
+pub const KINDS: [u8; 2] = [UNPRICED, PRICED];
 
 /// Where an index stands: the chain, and the place in it of the cell whose index it is. The 0 behind the
 /// last cell has a place too.
@@ -28,13 +28,14 @@ pub struct Sound {
     pub bytes: Vec<u8>,
     /// The cells of the two chains in their order, sales first.
     pub chains: [Vec<usize>; 2],
-    /// The sales in the order of their chain, none like another.
+    /// The sales in the order of their chain, none like another. Of an unpriced one, price and day are the
+    /// clock of the same bytes.
     pub sold: Vec<Sale>,
 }
 
 impl Sound {
-    /// A store of `cells` cells, `sales` of which are sales, the chains in a random order. All
-    /// that is no ground of refusal is random.
+    /// A store of `cells` cells, `sales` of which are sales, of both kinds or of one alone, the chains in a
+    /// random order. All that is no ground of refusal is random.
     pub fn random(prng: &mut Prng, cells: usize, sales: usize) -> Self {
         let mut order: Vec<usize> = (1..cells).collect();
         prng.shuffle(&mut order);
@@ -45,9 +46,9 @@ impl Sound {
             chains: [order, free],
             sold: (0..sales as u32).map(|n| random_sale(prng, 7, n)).collect(),
         };
-        for chain in [SALES, FREE] {
-            store.link(chain);
-        }
+        let kinds = prng.pick(&[&KINDS[..], &KINDS, &[UNPRICED], &[PRICED]]);
+        store.link(SALES, || prng.pick(kinds));
+        store.link(FREE, || store::FREE);
         for n in 0..sales {
             let body = sealed(&store.key, &store.sold[n]);
             store
@@ -58,14 +59,14 @@ impl Sound {
     }
 
     /// Writes the indices and the kinds of a chain.
-    fn link(&mut self, chain: usize) {
+    fn link(&mut self, chain: usize, mut kind: impl FnMut() -> u8) {
         let cells = self.chains[chain].clone();
         for (place, &cell) in cells.iter().chain([&0]).enumerate() {
             let offset = self.offset((chain, place));
             set_index(&mut self.bytes, offset, cell);
         }
         for cell in cells {
-            self.bytes[CELL_LEN * cell + KIND_AT] = KINDS[chain];
+            *self.kind_mut(cell) = kind();
         }
     }
 
@@ -88,6 +89,11 @@ impl Sound {
     /// The number of cells.
     pub fn cells(&self) -> usize {
         self.bytes.len() / CELL_LEN
+    }
+
+    /// The kind of a cell.
+    pub fn kind_mut(&mut self, cell: usize) -> &mut u8 {
+        &mut self.bytes[CELL_LEN * cell + KIND_AT]
     }
 
     /// The 61 bytes of a cell.
@@ -129,16 +135,27 @@ impl Sound {
 
 /// A sale of these numbers.
 pub fn random_sale(prng: &mut Prng, machine: u32, sale: u32) -> Sale {
-    let any = prng.next() as u32;
     Sale {
         machine,
         sale,
         nonce_tail: prng.next().to_le_bytes(),
-        amount: prng.pick(&[any, any % 1000, 0, 1, u32::MAX]),
+        amount: cents(prng),
         column: prng.next() as u16,
         means: prng.pick(&[1, 1, 1, 2, 2, 0, 3, 255]),
-        clock: std::array::from_fn(|_| prng.next() as u8),
+        price: cents(prng),
+        day: prng.next() as u16,
     }
+}
+
+fn cents(prng: &mut Prng) -> u32 {
+    let any = prng.next() as u32;
+    prng.pick(&[any, any % 1000, 0, 1, u32::MAX])
+}
+
+/// The amounts of these sales by coin, added up.
+pub fn coins<'a>(sales: impl IntoIterator<Item = &'a Sale>) -> u64 {
+    let coins = sales.into_iter().filter(|sold| sold.means == COIN);
+    coins.map(|sold| u64::from(sold.amount)).sum()
 }
 
 /// A sale's nonce, sealed record and tag.
@@ -159,7 +176,8 @@ pub fn sealed_by(
     let mut record = sold.amount.to_le_bytes().to_vec();
     record.extend(sold.column.to_le_bytes());
     record.push(sold.means);
-    record.extend(sold.clock);
+    record.extend(sold.price.to_le_bytes());
+    record.extend(sold.day.to_le_bytes());
     body.resize(BODY_LEN, 0);
     let (nonce, parcel) = body.split_at_mut(NONCE_LEN);
     let inputs = [key, nonce, header, &record];

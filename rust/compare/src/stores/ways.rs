@@ -1,8 +1,8 @@
 //! The ways in which a store is damaged.
 
 use crate::prng::Prng;
-use crate::stores::sound::{index, sealed_by, set_index, Sound, Spot, FREE, HEADS, KIND_AT, SALES};
-use reference::store::{BODY_LEN, CELL_LEN, ROUNDS, STORE_LENS};
+use crate::stores::sound::{index, sealed_by, set_index, Sound, Spot, FREE, HEADS, SALES};
+use reference::store::{self, BODY_LEN, CELL_LEN, PRICED, ROUNDS, STORE_LENS, UNPRICED};
 use reference::{Start, MRO, NONCE_LEN, OPP, TAG_LEN};
 use std::ops::Range;
 
@@ -17,6 +17,8 @@ pub enum Effect {
     Form(u32, usize),
     /// The sale in this cell does not open.
     Shut(usize),
+    /// The sale in this cell is of the other kind.
+    OtherKind(usize),
     /// Every call answers as before.
     Nothing,
     /// The second implementation says what.
@@ -24,7 +26,7 @@ pub enum Effect {
 }
 
 /// All ways. Those that change the length come last, since the others need the cells.
-pub const WAYS: [(&str, Damage); 32] = [
+pub const WAYS: [(&str, Damage); 33] = [
     ("an index past the last cell", index_past),
     ("a first index past the last cell", first_past),
     ("a last index past the last cell", last_past),
@@ -40,12 +42,13 @@ pub const WAYS: [(&str, Damage); 32] = [
     ("two first indices alike", firsts_alike),
     ("two indices of a chain exchanged", indices_exchanged),
     ("two tails exchanged", tails_exchanged),
-    ("a cell of another kind", misfit),
-    ("two cells of another kind", two_misfits),
+    ("a cell of a wrong kind", misfit),
+    ("two cells of a wrong kind", two_misfits),
     ("a misfit and a cell left out", misfit_and_left_out),
     ("a misfit and a broken walk", misfit_and_walk),
     ("a cell left out and a broken walk", left_out_and_walk),
     ("two broken walks", two_walks),
+    ("a sale of the other kind", other_kind),
     ("garbage in cell 0", garbage_in_cell_0),
     ("garbage in a free cell", garbage_in_free),
     ("a bit of a record", bit_of_record),
@@ -205,8 +208,11 @@ fn exchange(store: &mut Sound, one: Spot, other: Spot) {
 /// A kind of the other chain, or of neither.
 fn misfit(prng: &mut Prng, store: &mut Sound, chain: usize) -> Option<Effect> {
     let cell = any_of(prng, &store.chains[chain])?;
-    let other = [0, 1][chain];
-    store.bytes[CELL_LEN * cell + KIND_AT] = prng.pick(&[other, 2, 3, 255]);
+    let others: &[u8] = match chain {
+        SALES => &[store::FREE],
+        _ => &[UNPRICED, PRICED],
+    };
+    *store.kind_mut(cell) = prng.pick(&[others, &[3, 255]].concat());
     Some(Effect::Form(20, cell))
 }
 
@@ -251,6 +257,13 @@ fn two_walks(prng: &mut Prng, store: &mut Sound, _: usize) -> Option<Effect> {
 fn stray(prng: &mut Prng, store: &mut Sound, chain: usize) -> Option<Effect> {
     let damage: Damage = prng.pick(&[index_past, ring]);
     damage(prng, store, chain)
+}
+
+/// The kind is not sealed, so that the sale still opens.
+fn other_kind(prng: &mut Prng, store: &mut Sound, _: usize) -> Option<Effect> {
+    let cell = any_of(prng, &store.chains[SALES])?;
+    *store.kind_mut(cell) ^= UNPRICED ^ PRICED;
+    Some(Effect::OtherKind(cell))
 }
 
 fn garbage_in_cell_0(prng: &mut Prng, store: &mut Sound, _: usize) -> Option<Effect> {

@@ -1,9 +1,12 @@
 //! The store of sales: every ground through the calls with slices, and the wrapper over them.
 
-use calmbaize::slices::store::{cancel, format, read, take, total};
-use calmbaize::{open_sale, sale_numbers, Aead, Header, Key, Mode, Nonce, Rounds};
-use calmbaize::{Ground, Occupancy, Refusal, Sale, Store};
-use calmbaize::{CELL_LEN, MAX_STORE_LEN, MEANS_CARD, MEANS_COIN, MIN_STORE_LEN, SALE_LEN};
+mod kinds;
+
+use calmbaize::slices::store::{cancel, format, look_up, read, take, total};
+use calmbaize::{Aead, Header, Key, Mode, Nonce, Rounds};
+use calmbaize::{Ground, Occupancy, Refusal, Sale, SealedSale, Store};
+use calmbaize::{CELL_LEN, KIND_PRICED, MAX_STORE_LEN, MIN_STORE_LEN, SALE_LEN};
+use calmbaize::{MEANS_CARD, MEANS_COIN};
 
 const KEY: [u8; 32] = [3; 32];
 const TAIL: [u8; 8] = [0xc1; 8];
@@ -13,7 +16,8 @@ const SALE: Sale = Sale {
     amount: 0x0c0b_0a09,
     column: 0x0e0d,
     means: MEANS_COIN,
-    clock: [0x21, 0x22, 0x23, 0x24, 0x25, 0x26],
+    price: 0x2423_2221,
+    day: 0x2625,
 };
 
 fn key() -> Key {
@@ -59,6 +63,7 @@ fn no_store(bytes: &[u8], form: impl Into<Refusal>) {
     refused(bytes, form, |lent| cancel(&KEY, lent, SALE.machine, 1));
     refused(bytes, form, |lent| total(&KEY, lent));
     refused(bytes, form, |lent| read(lent, SALE.machine, 1));
+    refused(bytes, form, |lent| look_up(&KEY, lent, SALE.machine, 1));
     refused(bytes, form, |lent| Store::new(lent).sales().map(|_| ()));
     refused(bytes, form, |lent| Store::new(lent).check());
     // The key is looked at first.
@@ -66,6 +71,9 @@ fn no_store(bytes: &[u8], form: impl Into<Refusal>) {
     refused(bytes, short, |lent| take(&KEY[1..], lent, &TAIL, &SALE));
     refused(bytes, short, |lent| cancel(&[], lent, SALE.machine, 1));
     refused(bytes, short, |lent| total(&[3; 33], lent));
+    refused(bytes, short, |lent| {
+        look_up(&[3; 33], lent, SALE.machine, 1)
+    });
 }
 
 #[test]
@@ -104,7 +112,7 @@ fn a_sale_in_its_cell() {
     assert_eq!(bytes[3 * CELL_LEN..], before[3 * CELL_LEN..]);
 
     let (front, part) = bytes[2 * CELL_LEN..3 * CELL_LEN].split_at(3);
-    assert_eq!(front, [1, 0, 1]);
+    assert_eq!(front, [1, 0, KIND_PRICED]);
     let nonce = [1, 2, 3, 4, 5, 6, 7, 8].into_iter().chain(TAIL);
     assert_eq!(part[..16], nonce.collect::<Vec<u8>>());
     let aead = Aead::new(Mode::Mro, Rounds::Six, key());
@@ -203,7 +211,7 @@ fn chains() {
         ("sales into the free cells", cell, 5, at(StoreIndex, 4)),
         ("free cells into the sales", 5 * cell, 2, at(StoreIndex, 5)),
         ("free among the sales", 2 * cell + 2, 0, at(StoreKind, 2)),
-        ("kind 2 among the sales", cell + 2, 2, at(StoreKind, 1)),
+        ("kind 3 among the sales", cell + 2, 3, at(StoreKind, 1)),
         ("a sale among the free", 4 * cell + 2, 1, at(StoreKind, 4)),
         ("kind 2 among the free", 5 * cell + 2, 2, at(StoreKind, 5)),
         ("a cell in neither chain", 4 * cell, 0, at(StoreKind, 5)),
@@ -325,6 +333,10 @@ fn the_wrapper_makes_the_same_calls() {
         assert_eq!(store.take(&key(), &TAIL, &sale), taken);
     }
     let machine = SALE.machine;
+    for sale in [1, 4] {
+        let looked_up = look_up(&KEY, &by_slices, machine, sale);
+        assert_eq!(store.look_up(&key(), machine, sale), looked_up);
+    }
     for sale in [2, 2] {
         let cancelled = cancel(&KEY, &mut by_slices, machine, sale);
         assert_eq!(store.cancel(&key(), machine, sale), cancelled);
@@ -333,6 +345,7 @@ fn the_wrapper_makes_the_same_calls() {
     let wrong = Key::new([4; 32]);
     assert_eq!(store.total(&wrong), Err(at(Ground::Tag, 3)));
     assert_eq!(store.cancel(&wrong, machine, 1), Err(at(Ground::Tag, 1)));
+    assert_eq!(store.look_up(&wrong, machine, 1), Err(at(Ground::Tag, 1)));
     assert_eq!(bytes, by_slices);
 }
 
@@ -341,14 +354,15 @@ fn a_part_of_the_store_itself() {
     let mut bytes = stored(4, 3);
     let range = bytes.as_ptr_range();
     let store = Store::new(&mut bytes);
-    let part = store.read(SALE.machine, 2).unwrap();
+    let sealed = store.read(SALE.machine, 2).unwrap();
+    assert_eq!(sealed.open(&key()), Ok(numbered(2).into()));
+    let part = sealed.part;
     let offset = part.as_ptr() as usize - range.start as usize;
     assert_eq!(offset, 2 * CELL_LEN + 3);
     assert_eq!(
         part.as_ptr_range().end,
         range.start.wrapping_add(3 * CELL_LEN)
     );
-    assert_eq!(open_sale(&key(), part), Ok(numbered(2)));
     let absent = store.read(SALE.machine, 4);
     assert_eq!(absent, Err(Ground::SaleNumbers.into()));
 }
@@ -356,15 +370,20 @@ fn a_part_of_the_store_itself() {
 #[test]
 fn a_part_that_was_changed_does_not_open() {
     let mut bytes = stored(2, 1);
-    let part = *Store::new(&mut bytes).read(SALE.machine, 1).unwrap();
-    assert_eq!(sale_numbers(&part), (SALE.machine, 1));
+    let store = Store::new(&mut bytes);
+    let sealed = store.read(SALE.machine, 1).unwrap();
+    assert_eq!(sealed.numbers(), (SALE.machine, 1));
     for at in 0..SALE_LEN {
-        let mut changed = part;
-        changed[at] ^= 0x80;
-        assert_eq!(open_sale(&key(), &changed), Err(Ground::Tag.into()));
+        let mut part = *sealed.part;
+        part[at] ^= 0x80;
+        let changed = SealedSale {
+            part: &part,
+            ..sealed
+        };
+        assert_eq!(changed.open(&key()), Err(Ground::Tag.into()));
     }
     let wrong = Key::new([4; 32]);
-    assert_eq!(open_sale(&wrong, &part), Err(Ground::Tag.into()));
+    assert_eq!(sealed.open(&wrong), Err(Ground::Tag.into()));
 }
 
 #[test]
@@ -374,10 +393,11 @@ fn sales_come_in_the_order_of_their_chain() {
     let listed = |store: &Store<'_>| -> Vec<(u32, u32)> {
         let sales = store.sales().unwrap();
         sales
-            .map(|(cell, part)| {
-                let numbers = sale_numbers(part);
+            .map(|(cell, sealed)| {
+                let numbers = sealed.numbers();
                 let read = store.read(numbers.0, numbers.1).unwrap();
-                assert!(std::ptr::eq(read, part));
+                assert!(std::ptr::eq(read.part, sealed.part));
+                assert_eq!(read.kind, sealed.kind);
                 (cell, numbers.1)
             })
             .collect()
