@@ -28,9 +28,9 @@
  *     calmbaize_convert() on the answer.
  *   - In the store, none depends on the key, on what a sale's record holds, or
  *     on its sealed bytes and tag, but for this: whether a sale opens, which the
- *     answer tells (checked on x86-64). Its length, indices, kinds and nonces and
- *     the numbers of the sale named are no secrets: branches and time depend on
- *     them.
+ *     answer tells (checked on x86-64). The store's length, indices, kinds and
+ *     nonces and the numbers of the sale named are no secrets: branches and time
+ *     depend on them.
  */
 #ifndef CALMBAIZE_H
 #define CALMBAIZE_H
