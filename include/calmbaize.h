@@ -63,10 +63,10 @@
  * What the record in a store's cell is made of goes by the cell's kind. Sales of
  * both kinds are of format 2 where version 0.4.0 or a later one stored them.
  *
- *   1   versions before 0.8.0. It has a clock and no price. It is still read, and
- *       no call stores it any more.
- *   2   from version 0.8.0 on. It has price and day. An older unit refuses a store
- *       with such a cell: version 0.7.0 with 20, those before it with 14.
+ *   kind 1   versions before 0.8.0. It has a clock and no price. It is still read,
+ *            and no call stores it any more.
+ *   kind 2   from version 0.8.0 on. It has price and day. An older unit refuses a
+ *            store with such a cell: version 0.7.0 with 20, those before with 14.
  */
 #define CALMBAIZE_FORMAT 2
 
