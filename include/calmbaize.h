@@ -28,9 +28,9 @@
  *     calmbaize_convert() on the answer.
  *   - In the store, none depends on the key, on what a sale's record holds, or
  *     on its sealed bytes and tag, but for this: whether a sale opens, which the
- *     answer tells (checked on x86-64). Its length, indices, kinds and nonces and
- *     the numbers of the sale named are no secrets: branches and time depend on
- *     them.
+ *     answer tells (checked on x86-64). The store's length, indices, kinds and
+ *     nonces and the numbers of the sale named are no secrets: branches and time
+ *     depend on them.
  */
 #ifndef CALMBAIZE_H
 #define CALMBAIZE_H
@@ -63,10 +63,10 @@
  * What the record in a store's cell is made of goes by the cell's kind. Sales of
  * both kinds are of format 2 where version 0.4.0 or a later one stored them.
  *
- *   1   versions before 0.8.0. It has a clock and no price. It is still read, and
- *       no call stores it any more.
- *   2   from version 0.8.0 on. It has price and day. An older unit refuses a store
- *       with such a cell: version 0.7.0 with 20, those before it with 14.
+ *   kind 1   versions before 0.8.0. It has a clock and no price. It is still read,
+ *            and no call stores it any more.
+ *   kind 2   from version 0.8.0 on. It has price and day. An older unit refuses a
+ *            store with such a cell: version 0.7.0 with 20, those before with 14.
  */
 #define CALMBAIZE_FORMAT 2
 
