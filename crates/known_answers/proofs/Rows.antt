@@ -17,7 +17,7 @@ use Rattle.blockplan.specs.Parcel.{same, parcelOf, cipherPart, tagPart, message
 use Rattle.opp.specs.Opp.{padded, oppSum, oppCheck, oppTag, sealAt, openAt, oppStream, oppCipher, oppPlain, oppMode}
 use Rattle.mro.specs.Mro.{blocks, mroSum, lengths, mroTag, counter, mroStream, streamed, mroCipher, mroMode}
 use Rattle.modes.specs.Modes.{modeOf}
-use Rattle.answers.specs.Answers.{lineAt, line, room, checked, judged}
+use Rattle.answers.specs.Answers.{codeOf, totalled, lineAt, line, room, checked, judged}
 use Rattle.checks.specs.Checks.{isMode, isOneOf, isRounds, settings, sealInputs, openInputs, sealChecks, openChecks, convertChecks, larger, runLength, sealRunChecks, openRunChecks}
 use Rattle.sealing.specs.Sealing.{verdict, sealFrom, openFrom, sealCall, openCall, openOldCall}
 use Rattle.converting.specs.Converting.{converted, convertCall}
@@ -31,15 +31,15 @@ use Rattle.cells.specs.Faults.{walkOf, salesWalk, freeWalk, lengthOr, brokenOr,
 use Rattle.cells.specs.Changes.{cellBytes, freshCell, fresh, filled, emptied}
 use Rattle.sales.specs.Sale.{nonceOf, recordOf, saleMode, bodyFor, storedAs, opens, recordIn, detailIn, saleIn, cashOf}
 use Rattle.entries.specs.Entries.{opensAt, shutAt, saleAt, salesIn, cash}
-use Rattle.store.specs.Store.{formChecks, keyChecks, formatChecks, takeChecks, cancelChecks, totalChecks, readChecks, formatCall, takeCall, cancelCall, totalCall, partWhere, readPart, readRefusal, readOffset, withPrice, amountAndPrice, lookUpWhere, lookUpCall, kindTold, amountTold, priceTold}
+use Rattle.store.specs.Store.{formChecks, keyChecks, formatChecks, takeChecks, cancelChecks, totalChecks, readChecks, formatCall, takeCall, cancelCall, totalCall, refusedOr, readPart, readRefusal, readOffset, pricedBy, amountAndPrice, lookUpCall, kindTold, amountTold, priceTold, lookedUp}
 use Rattle.words.proofs.Truth.{allBelow, carried}
 use Rattle.blockplan.proofs.Compared.{same-true}
 use Rattle.known_answers.proofs.Zeros.{zero-tags, zero-parcel}
-use Rattle.known_answers.specs.KnownAnswers.{word, g, workVector, emptyDigest, full, sampleKey, sampleNonce, sampleHeader, sampleMessage, nines, sampleWords, tagWords, oldOpp, oldMro, newOpp, newMro, newOppParcel, newMroParcel, sampleParcel, openedByRun, sealedOld, answered, paid, bodyNamed, oneSold, brokenBy, twoSales, soldBody, zeroBody, storeOf, told, fields, table, rowAt, KnownAnswers}
+use Rattle.known_answers.specs.KnownAnswers.{word, g, workVector, emptyDigest, full, sampleKey, sampleNonce, sampleHeader, sampleMessage, nines, sampleWords, tagWords, oldOpp, oldMro, newOpp, newMro, newOppParcel, newMroParcel, sampleParcel, openedByRun, sealedOld, answered, paid, bodyNamed, oneSold, brokenBy, twoSales, soldBody, zeroBody, storeOf, told, toldTotal, code, fields, heldWith, table, rowAt, KnownAnswers}
 
 -- the test of row i, which opens all that the rows compute with: so the parts below open the test alone
 unfoldable agrees : ℕ → Bool
-unfolding allBelow rowAt table same word g workVector emptyDigest full sampleKey sampleNonce sampleHeader sampleMessage nines sampleWords tagWords oldOpp oldMro newOpp newMro newOppParcel newMroParcel sampleParcel openedByRun sealedOld answered zeroBlock tab cat fold times zeros le lowBytes wordAt blockOf wordBytes bytesOf xorBytes perm backPerm startWords startBlock startOf oldStartBlock oldStartOf maskAt encipher decipher E D whole left hasLeft blockAt xorOver xorIf ciphered tagBytes padded oppSum oppCheck oppTag sealAt openAt oppStream oppCipher oppPlain blocks absorbAt mroSum lengths mroTag counter mroStream streamed mroCipher modeOf oppMode mroMode parcelOf messageOf cipherPart tagPart genuine opened gOf backGOf addW subW rotR rotL shl round backRound over backOver groups columns diagonals gAt backGAt stepAt pick put alpha alphaW beta gamma xorBlock xorAt backAlpha lineAt line room checked judged isMode isOneOf isRounds settings sealInputs openInputs sealChecks openChecks convertChecks converted convertCall nextWord grown larger runLength sealRunChecks openRunChecks runIn sealRunCall openRunCall verdict sealFrom openFrom sealCall openCall openOldCall isStep firstBad inRange walkChecks jumpChecks paid bodyNamed oneSold brokenBy twoSales soldBody zeroBody storeOf told fields storedAs detailIn withPrice amountAndPrice lookUpWhere lookUpCall kindTold amountTold priceTold numberAt putAt chain count isIn some first holder firstFrom cells firstSale firstFree nextOf kindOf bodyOf sales free isLength lengthFits kindFits walkOf salesWalk freeWalk lengthOr brokenOr unfit kindFault formFault faultOf faultCheck named present cellNamed cellBefore cellBytes freshCell fresh filled emptied nonceOf recordOf saleMode bodyFor opens recordIn saleIn cashOf opensAt shutAt saleAt salesIn cash formChecks keyChecks formatChecks takeChecks cancelChecks totalChecks readChecks formatCall takeCall cancelCall totalCall partWhere readPart readRefusal readOffset
+unfolding allBelow rowAt table same word g workVector emptyDigest full sampleKey sampleNonce sampleHeader sampleMessage nines sampleWords tagWords oldOpp oldMro newOpp newMro newOppParcel newMroParcel sampleParcel openedByRun sealedOld answered zeroBlock tab cat fold times zeros le lowBytes wordAt blockOf wordBytes bytesOf xorBytes perm backPerm startWords startBlock startOf oldStartBlock oldStartOf maskAt encipher decipher E D whole left hasLeft blockAt xorOver xorIf ciphered tagBytes padded oppSum oppCheck oppTag sealAt openAt oppStream oppCipher oppPlain blocks absorbAt mroSum lengths mroTag counter mroStream streamed mroCipher modeOf oppMode mroMode parcelOf messageOf cipherPart tagPart genuine opened gOf backGOf addW subW rotR rotL shl round backRound over backOver groups columns diagonals gAt backGAt stepAt pick put alpha alphaW beta gamma xorBlock xorAt backAlpha lineAt line room checked judged isMode isOneOf isRounds settings sealInputs openInputs sealChecks openChecks convertChecks converted convertCall nextWord grown larger runLength sealRunChecks openRunChecks runIn sealRunCall openRunCall verdict sealFrom openFrom sealCall openCall openOldCall isStep firstBad inRange walkChecks jumpChecks paid bodyNamed oneSold brokenBy twoSales soldBody zeroBody storeOf told toldTotal code fields heldWith storedAs detailIn refusedOr pricedBy amountAndPrice lookUpCall kindTold amountTold priceTold lookedUp totalled codeOf numberAt putAt chain count isIn some first holder firstFrom cells firstSale firstFree nextOf kindOf bodyOf sales free isLength lengthFits kindFits walkOf salesWalk freeWalk lengthOr brokenOr unfit kindFault formFault faultOf faultCheck named present cellNamed cellBefore cellBytes freshCell fresh filled emptied nonceOf recordOf saleMode bodyFor opens recordIn saleIn cashOf opensAt shutAt saleAt salesIn cash formChecks keyChecks formatChecks takeChecks cancelChecks totalChecks readChecks formatCall takeCall cancelCall totalCall readPart readRefusal readOffset
 agrees i = same (rowAt i .got) (rowAt i .want)
 
 -- in two parts, the rows before this one and those from it on: the steps of one computation are bounded, and all rows take more

@@ -1,8 +1,8 @@
 -- The bench sheet's cases that are proved, P1 to P11 and the limits of the checks, and rows of the cards, as rows of one table (document 01, "Bench sheet"; document 02, cards 1, 2 and 4 to 8). Assumes nothing.
 use mathlib.Core.Path.{_≡_}
-use mathlib.Core.Bool.{cond}
+use mathlib.Core.Bool.{true, false, cond}
 use mathlib.Core.List.{List, [], _∷_, _++_, map}
-use Prim.Native.Nat.{ℕ, suc, _+_, _-_, _%_, _<_}
+use Prim.Native.Nat.{ℕ, suc, _+_, _-_, _*_, _%_, _<_}
 use lib.IntN.{pos, negsuc}
 use lib.ListN.{length, getD, set, drop}
 use lib.Bits.{bitXor}
@@ -16,7 +16,7 @@ use Rattle.mem.specs.Mem.{startBlock, oldStartBlock, oldStartOf}
 use Rattle.blockplan.specs.Parcel.{parcelOf}
 use Rattle.opp.specs.Opp.{padded}
 use Rattle.modes.specs.Modes.{modeOf}
-use Rattle.answers.specs.Answers.{groundNumber}
+use Rattle.answers.specs.Answers.{groundNumber, totalled}
 use Rattle.answers.specs.declared.Check.{Check}
 use Rattle.answers.specs.declared.Check.the-variants.{Clear, Fails}
 use Rattle.answers.specs.declared.Answer.{Answer}
@@ -26,14 +26,13 @@ use Rattle.sealing.specs.Sealing.{sealCall, openCall, openOldCall}
 use Rattle.converting.specs.Converting.{convertCall}
 use Rattle.run_sealing.specs.RunSealing.{sealRunCall, openRunCall}
 use Rattle.walking.specs.Walking.{walkChecks, jumpChecks}
-use Rattle.cells.specs.Cells.{isLength, free, cellNamed, cellBefore}
+use Rattle.cells.specs.Cells.{isLength, free, kindFits, cellNamed, cellBefore}
 use Rattle.cells.specs.Changes.{fresh, filled, emptied}
 use Rattle.sales.specs.declared.Sale.{Sale}
-use Rattle.sales.specs.Sale.{Detail, StoredSale, storedAs, saleIn, cashOf}
+use Rattle.sales.specs.Sale.{saleOf, recordOf, Detail, StoredSale, storedAs, detailIn, cashOf}
 use Rattle.sales.specs.Sale.Detail.{clock, listed}
-use Rattle.store.specs.Store.{formatChecks, takeChecks, cancelChecks, totalChecks, readChecks, formatCall, takeCall, cancelCall, totalCall, readPart, readRefusal, readOffset, lookUpCall, kindTold, amountTold, priceTold}
+use Rattle.store.specs.Store.{formatChecks, takeChecks, cancelChecks, totalChecks, readChecks, formatCall, takeCall, cancelCall, totalCall, readPart, readRefusal, readOffset, amountAndPrice, lookUpCall, lookedUp}
 use Rattle.store.specs.declared.LookUp.{LookUp}
-use Rattle.store.specs.declared.LookUp.the-variants.{Priced, Unpriced, Refused as NotFound}
 
 -- a case: what the definitions give, and what it must be
 pub record Row : Type 0 where
@@ -145,7 +144,7 @@ openedByRun mode parcel =
 
 -- a sale of 150 cents, listed at 148, on day 291
 unfoldable pub paid : ℕ → Sale
-paid means = record { machine = 7; sale = 1; tail = zeros 8; amount = 150; column = 4; means = means; price = 148; day = 291 }
+paid means = saleOf 7 1 (zeros 8) 150 4 means 148 291
 
 -- 61 bytes that begin with a machine and a sale number
 unfoldable pub bodyNamed : ℕ → ℕ → List ℕ
@@ -181,23 +180,30 @@ zeroBody =
 unfoldable pub storeOf : ℕ → List ℕ → List ℕ
 storeOf kind body = 1 ∷ (zeros 63 ++ (0 ∷ 0 ∷ kind ∷ body))
 
--- what a look-up answers and leaves in the two variables, which held 9
+-- what C gets of a look-up: the one number, and the two variables, which held 8 and 9
 unfoldable pub told : LookUp → List ℕ
-told r = answered (kindTold r, amountTold r 9 ∷ priceTold r 9 ∷ [])
+told r = let c = lookedUp r 8 9 in c .0 ∷ c .1 .0 ∷ c .1 .1 ∷ []
 
--- case by case, so that the look-up is computed once
-abbrev pub looked : LookUp → List ℕ
-looked (Priced amount price) = told (Priced amount price)
-looked (Unpriced amount) = told (Unpriced amount)
-looked (NotFound ground place) = told (NotFound ground place)
+-- what C gets of a total: the one number, and its variable, which held 9
+unfoldable pub toldTotal : Answer → List ℕ
+toldTotal a = let c = totalled a 9 in c .0 ∷ c .1 ∷ []
 
--- the fields of a sale: its numbers, the tail, amount, column, means; then 1 and the clock, or 2, price and day
+-- a refusal's number and place as the one number
+unfoldable pub code : ℕ → ℕ → ℕ
+code number place = number * 4294967296 + place
+
+-- the last field of a sale: 1 and the clock, or 2, price and day
 abbrev pub detailFields : Detail → List ℕ
 detailFields (clock bytes) = 1 ∷ bytes
 detailFields (listed price day) = 2 ∷ price ∷ day ∷ []
 
+-- all fields: its numbers, the tail, amount, column, means, and that one
 unfoldable pub fields : StoredSale → List ℕ
 fields x = x .machine ∷ x .sale ∷ (x .tail ++ (x .amount ∷ x .column ∷ x .means ∷ detailFields (x .detail)))
+
+-- a sale of this amount and last field, as a store holds it
+unfoldable pub heldWith : ℕ → Detail → StoredSale
+heldWith amount detail = record { machine = 7; sale = 1; tail = zeros 8; amount = amount; column = 4; means = 1; detail = detail }
 
 -- the bench sheet in its order, P10 and P11 over the section 4 start; then the table's other grounds, and rows of the cards, card by card. Sealed bytes that no document has
 -- are as two implementations outside the proofs, in C and in Rust, compute them
@@ -371,20 +377,26 @@ table =
     ∷ record { got = finds (totalChecks sampleKey (set (twoSales 3) 66 0)); want = 20 ∷ 1 ∷ [] }  -- 20 before 9
     ∷ record { got = answered (cancelCall (zeros 32) 7 1 (set (oneSold 3) 64 3)); want = 19 ∷ 1 ∷ set (oneSold 3) 64 3 }  -- a call that would write: the answer and the store, unchanged
     -- ---- card 8: price shown and amount taken
-    ∷ record { got = brokenBy (set (twoSales 4) 66 1); want = 0 ∷ 0 ∷ [] }  -- kinds 1 and 2 among the sales,
-    ∷ record { got = brokenBy (set (fresh 3) 130 2); want = 20 ∷ 2 ∷ [] }  -- 2 among the free
-    ∷ record { got = fields (storedAs (paid 1)); want = 7 ∷ 1 ∷ (zeros 8 ++ (150 ∷ 4 ∷ 1 ∷ 2 ∷ 148 ∷ 291 ∷ [])) }  -- a new sale, and what its 61 bytes say by the kind of their cell, 2 and 1
-    ∷ record { got = fields (saleIn sampleKey 2 soldBody); want = 7 ∷ 1 ∷ (zeros 8 ++ (150 ∷ 4 ∷ 1 ∷ 2 ∷ 148 ∷ 291 ∷ [])) }
-    ∷ record { got = fields (saleIn sampleKey 1 soldBody); want = 7 ∷ 1 ∷ (zeros 8 ++ (150 ∷ 4 ∷ 1 ∷ 1 ∷ 148 ∷ 0 ∷ 0 ∷ 0 ∷ 35 ∷ 1 ∷ [])) }
-    ∷ record { got = looked (lookUpCall sampleKey 7 1 (storeOf 2 soldBody)); want = 0 ∷ 2 ∷ 150 ∷ 148 ∷ [] }  -- amount and price,
-    ∷ record { got = looked (lookUpCall sampleKey 7 1 (storeOf 2 zeroBody)); want = 0 ∷ 2 ∷ 150 ∷ 0 ∷ [] }  -- price 0,
-    ∷ record { got = looked (lookUpCall sampleKey 7 1 (storeOf 1 zeroBody)); want = 0 ∷ 1 ∷ 150 ∷ 9 ∷ [] }  -- and no price, for the same 61 bytes in a cell of kind 1:
-    ∷ record { got = answered (totalCall sampleKey (storeOf 1 zeroBody), []); want = 0 ∷ 150 ∷ [] }  -- the kind byte is not sealed, and amount and total do not depend on it
+    ∷ record { got = map (λ k. cond (kindFits true k) 1 0) (tab (λ i. i) 256); want = 0 ∷ 1 ∷ 1 ∷ zeros 253 }  -- every kind byte among the sales, and among the free
+    ∷ record { got = map (λ k. cond (kindFits false k) 1 0) (tab (λ i. i) 256); want = 1 ∷ zeros 255 }
+    ∷ record { got = brokenBy (set (twoSales 4) 66 1); want = 0 ∷ 0 ∷ [] }  -- a store with sales of both kinds
+    ∷ record { got = fields (storedAs (paid 1)); want = 7 ∷ 1 ∷ (zeros 8 ++ (150 ∷ 4 ∷ 1 ∷ 2 ∷ 148 ∷ 291 ∷ [])) }  -- a new sale, its record, and what the record's end says by the kind
+    ∷ record { got = recordOf (paid 1); want = 150 ∷ 0 ∷ 0 ∷ 0 ∷ 4 ∷ 0 ∷ 1 ∷ 148 ∷ 0 ∷ 0 ∷ 0 ∷ 35 ∷ 1 ∷ [] }
+    ∷ record { got = detailFields (detailIn 2 (recordOf (paid 1))); want = 2 ∷ 148 ∷ 291 ∷ [] }
+    ∷ record { got = detailFields (detailIn 1 (recordOf (paid 1))); want = 1 ∷ 148 ∷ 0 ∷ 0 ∷ 0 ∷ 35 ∷ 1 ∷ [] }
+    ∷ record { got = told (amountAndPrice (heldWith 70000 (listed 4000000000 291))); want = 2 ∷ 70000 ∷ 4000000000 ∷ [] }  -- a price above the amount, the same, and none
+    ∷ record { got = told (amountAndPrice (heldWith 70000 (listed 70000 0))); want = 2 ∷ 70000 ∷ 70000 ∷ [] }
+    ∷ record { got = told (amountAndPrice (heldWith 70000 (clock (nines 6)))); want = 1 ∷ 70000 ∷ 9 ∷ [] }
+    ∷ record { got = told (lookUpCall sampleKey 7 1 (storeOf 2 soldBody)); want = 2 ∷ 150 ∷ 148 ∷ [] }  -- whole look-ups: amount and price,
+    ∷ record { got = told (lookUpCall sampleKey 7 1 (storeOf 2 zeroBody)); want = 2 ∷ 150 ∷ 0 ∷ [] }  -- price 0,
+    ∷ record { got = told (lookUpCall sampleKey 7 1 (storeOf 1 zeroBody)); want = 1 ∷ 150 ∷ 9 ∷ [] }  -- and no price for the same 61 bytes in a cell of kind 1:
+    ∷ record { got = toldTotal (totalCall sampleKey (storeOf 1 zeroBody)); want = 0 ∷ 150 ∷ [] }  -- the kind byte is not sealed, and amount and total do not depend on it
     ∷ record { got = answered (cancelCall sampleKey 7 1 (storeOf 1 soldBody)); want = 0 ∷ 150 ∷ fresh 2 }
-    ∷ record { got = looked (lookUpCall (zeros 31) 7 3 (zeros 64)); want = 3 ∷ 0 ∷ 9 ∷ 9 ∷ [] }  -- refused as cancel is: 3,
-    ∷ record { got = looked (lookUpCall (zeros 32) 7 3 (set (twoSales 3) 66 3)); want = 20 ∷ 1 ∷ 9 ∷ 9 ∷ [] }  -- 20 before 16,
-    ∷ record { got = looked (lookUpCall (zeros 32) 7 3 (twoSales 3)); want = 16 ∷ 0 ∷ 9 ∷ 9 ∷ [] }
-    ∷ record { got = looked (lookUpCall sampleKey 7 1 (twoSales 3)); want = 9 ∷ 1 ∷ 9 ∷ 9 ∷ [] }  -- and 9 with its cell
+    ∷ record { got = told (lookUpCall (zeros 31) 7 3 (zeros 64)); want = code 3 0 ∷ 8 ∷ 9 ∷ [] }  -- refused as cancel is: 3,
+    ∷ record { got = told (lookUpCall (zeros 32) 7 3 (set (twoSales 3) 66 3)); want = code 20 1 ∷ 8 ∷ 9 ∷ [] }  -- 20 before 16,
+    ∷ record { got = told (lookUpCall (zeros 32) 7 3 (twoSales 3)); want = code 16 0 ∷ 8 ∷ 9 ∷ [] }
+    ∷ record { got = told (lookUpCall sampleKey 7 1 (twoSales 3)); want = code 9 1 ∷ 8 ∷ 9 ∷ [] }  -- and 9 with its cell
+    ∷ record { got = toldTotal (totalCall sampleKey (set (fresh 2) 66 2)); want = code 20 1 ∷ 9 ∷ [] }  -- kind 2 among the free, as C gets it
     ∷ []
 
 -- row i of the table
