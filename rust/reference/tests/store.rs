@@ -45,14 +45,14 @@ fn older(number: u8, amount: u8, means: u8, clock: [u8; 6]) -> Vec<u8> {
     [&[1][..], &nonce, &parcel].concat()
 }
 
-/// The sales 1 to 4 in cells 1 to 4, the first and the third of an older unit. One of each kind is by
-/// coin. Cell 5 is free.
+/// The sales 1 to 4 in cells 1 to 4, the first and the third of an older unit, the fourth with price 0. One
+/// of each kind is by coin. Cell 5 is free.
 fn mixed() -> Vec<u8> {
-    let free = Sale {
+    let price_0 = Sale {
         price: 0,
         ..sale(4, 40, 2)
     };
-    let taken = [sale(1, 1, 1), sale(2, 20, 1), sale(3, 3, 1), free];
+    let taken = [sale(1, 1, 1), sale(2, 20, 1), sale(3, 3, 1), price_0];
     let mut store = with(6, &taken);
     for (cell, old) in [
         (1, older(1, 10, 1, [0; 6])),

@@ -155,6 +155,7 @@ impl<'a> History<'a> {
     fn inherit(&mut self) {
         let (cells, sales) = (self.cells(), self.prng.below(self.cells()));
         let mut store = Sound::random(self.prng, cells, sales);
+        self.ledger.clear();
         for n in 0..sales {
             let key = self.prng.below(self.keys.len() - 1);
             if self.prng.once_in(10) {
