@@ -65,8 +65,9 @@
  *
  *   kind 1   versions before 0.8.0. It has a clock and no price. It is still read,
  *            and no call stores it any more.
- *   kind 2   from version 0.8.0 on. It has price and day. An older unit refuses a
- *            store with such a cell: version 0.7.0 with 20, those before with 14.
+ *   kind 2   from version 0.8.0 on. It has price and day. In an older unit every
+ *            call but format refuses a store with such a cell: version 0.7.0 with
+ *            20, those before with 14.
  */
 #define CALMBAIZE_FORMAT 2
 
@@ -425,7 +426,8 @@ uint64_t calmbaize_store_format(uint8_t *store, size_t store_len);
 /*
  * Seals a sale of kind 2 into the first free cell and puts it first among the
  * sales. The amount is what was taken and the price what was shown; neither is
- * held against the other.
+ * held against the other. Before version 0.8.0 this call took a clock in the place
+ * of price and day: compile its callers anew.
  *
  * Success writes that cell and the two indices of cell 0, and answers the cell.
  * The rest of the store is unchanged. Where numbers come again, after a
@@ -480,7 +482,8 @@ uint64_t calmbaize_store_total(const uint8_t *key, size_t key_len,
  * check a store's form: any answer but 18, 19 and 20 says that it is right.
  *
  * Success answers the offset in the store at which its 61 bytes begin: nonce,
- * sealed record and tag. The store is unchanged.
+ * sealed record and tag. Its kind, by which the record is read, is the byte before
+ * them. The store is unchanged.
  *
  * Refused, in this order, with 18, 19, 20, and 16 where no sale has these numbers.
  */
@@ -493,8 +496,11 @@ uint64_t calmbaize_store_read(const uint8_t *store, size_t store_len,
  *
  * Success answers the sale's kind. Where that is CALMBAIZE_KIND_PRICED, the amount
  * and the price are written, which may be 0; where it is CALMBAIZE_KIND_UNPRICED,
- * there is no price: the amount is written, and the price is unchanged. The store
- * is unchanged.
+ * there is no price: the amount is written, and the price is unchanged, so look at
+ * the answer first. Neither pointer may be null. The store is unchanged.
+ *
+ * The tag covers the amount and the record's last six bytes, and not the kind: that
+ * these are a price, or a clock, rests on the store's memory.
  *
  * Refused as calmbaize_store_cancel() is; then amount and price are unchanged.
  */
