@@ -1,5 +1,5 @@
 -- A store is sound where both chains end, their kinds fit, and they have as many cells as there are. Assumes nothing.
-use mathlib.Core.Path.{_≡_, refl, sym, ap, subst, _∙_}
+use mathlib.Core.Path.{_≡_, refl, sym, subst, _∙_}
 use mathlib.Core.Bool.{Bool, cond, true, false, false≢true}
 use mathlib.Core.List.{List, [], _∷_, _++_}
 use Prim.Native.Nat.{ℕ, _+_, _-_, _≤_, _<_}
@@ -10,8 +10,8 @@ use lib.ListN.{length, length-append}
 use borrow.Author.Tests.{eq-eqb, ne-eqb, eqb-true}
 use Rattle.cells.specs.Chains.{count}
 use Rattle.cells.specs.Cells.{cells, firstSale, firstFree, nextOf, kindOf, kindFits, formed}
-use Rattle.cells.proofs.Chains.{Linked, In, count-here, count-there, pigeonhole}
-use Rattle.cells.proofs.Form.{Long, Form, of-form}
+use Rattle.cells.proofs.Chains.{Linked, In, count-there, pigeonhole}
+use Rattle.cells.proofs.Form.{Long, of-form}
 use Rattle.chains.specs.Sound.{Segment, BothUpTo, OneUpTo}
 use Rattle.cells.proofs.Counts.{count-append}
 

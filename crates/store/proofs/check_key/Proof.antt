@@ -8,16 +8,13 @@ use Rattle.store.proofs.check_key.Reads as reads
 use Rattle.store.proofs.check_key.Lts as lts
 use Rattle.chains.proofs.form.check_form.Reads as check-form-reads
 
--- src/lib.rt:31:9
 returns : tie.Need-returns
 unfolding keyChecks line lineAt
 returns c = rw (ne-eqb _ 32 (c .if1 .taken))
 
--- src/lib.rt:33:5
 check-form-requires : tie.Need-check-form-requires
 check-form-requires c κs = search needs
 
--- src/lib.rt:27:1
 returns-2 : tie.Need-returns-2
 unfolding keyChecks formChecks line lineAt
 returns-2 c = rw (eq-eqb _ 32 (c .before .if1 .left)) (c .check-form .ensures)

@@ -13,30 +13,24 @@ use Rattle.store.proofs.format.Lts as lts
 use Rattle.cells.proofs.writing.format.Reads as format-reads
 use Rattle.chains.proofs.form.length_fits.Reads as length-fits-reads
 
--- src/lib.rt:40:9
 length-fits-requires : tie.Need-length-fits-requires
 length-fits-requires c κs = search needs
 
--- src/lib.rt:41:9
 same-length : tie.Need-same-length
 same-length c = search needs
 
--- src/lib.rt:41:9
 returns : tie.Need-returns
 unfolding formatCall formatChecks lengthOr faultCheck checked
 returns c = rw (sym (c .before .length-fits .ensures) ∙ not-true _ (c .if1 .taken))
 
--- src/lib.rt:43:5
 format-requires : tie.Need-format-requires
 format-requires c κs =
     let l = long-of _ (sym (c .before .before .length-fits .ensures) ∙ not-false _ (c .before .if1 .left)) in
     (omega (arith, l .least, l .whole), omega (arith, l .whole))
 
--- src/lib.rt:37:1
 same-length-2 : tie.Need-same-length-2
 same-length-2 c = search needs
 
--- src/lib.rt:37:1
 returns-2 : tie.Need-returns-2
 unfolding formatCall formatChecks lengthOr faultCheck checked
 returns-2 c = rw (sym (c .before .before .before .before .before .length-fits .ensures) ∙ not-false _ (c .before .before .before .before .if1 .left), c .before .before .format .ensures)

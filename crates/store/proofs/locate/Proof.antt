@@ -10,15 +10,12 @@ use Rattle.store.proofs.locate.Lts as lts
 use Rattle.chains.proofs.find.find.Reads as find-reads
 use Rattle.chains.proofs.form.check_form.Reads as check-form-reads
 
--- src/lib.rt:104:9
 check-form-requires : tie.Need-check-form-requires
 check-form-requires c κs = search needs
 
--- src/lib.rt:105:25
 enum-known-found : tie.Need-enum-known-found
 enum-known-found c = search needs
 
--- src/lib.rt:106:9
 returns : tie.Need-returns
 unfolding formChecks
 returns c = read-stopped _ _ _ _ _ _ (c .before .before .before .check-form .ensures) (c .before .found .given .1)
@@ -26,26 +23,21 @@ returns c = read-stopped _ _ _ _ _ _ (c .before .before .before .check-form .ens
 enum-told : tie.Need-enum-told
 enum-told c = search needs
 
--- src/lib.rt:108:9
 find-requires : tie.Need-find-requires
 unfolding formChecks
 find-requires c κs = form-clear _ (sym (c .before .before .check-form .ensures) ∙ c .enum-told .given .1)
 
--- src/lib.rt:110:43
 enum-told-2 : tie.Need-enum-told-2
 enum-told-2 c = search needs
 
--- src/lib.rt:111:22
 enum-known-there : tie.Need-enum-known-there
 enum-known-there c = search needs
 
--- src/lib.rt:101:1
 returns-2 : tie.Need-returns-2
 unfolding formChecks
 returns-2 c =
     read-absent _ _ _ _ (c .before .before .before .before .before .check-form .ensures) (c .before .before .before .enum-told .given .1) (found-absent _ _ _ (c .before .before .find .ensures) (c .enum-told2 .given .1))
 
--- src/lib.rt:101:1
 returns-3 : tie.Need-returns-3
 unfolding formChecks
 returns-3 c =

@@ -8,42 +8,33 @@ use Rattle.store.proofs.read.Lts as lts
 use Rattle.cells.proofs.fields.body_of.Reads as body-of-reads
 use Rattle.store.proofs.locate.Reads as locate-reads
 
--- src/lib.rt:119:9
 locate-requires : tie.Need-locate-requires
 locate-requires c κs = search needs
 
--- src/lib.rt:121:22
 enum-known-at : tie.Need-enum-known-at
 enum-known-at c = search needs
 
--- src/lib.rt:121:28
 body-of-requires : tie.Need-body-of-requires
 body-of-requires c κs =
     let e = c .before .before .before .locate .ensures in
     let q = c .before .at .given .1 in
     rw (located _ _ _ e q .1) (cell-inside _ _ _ (located-formed _ _ _ e q) (located-present _ _ _ e q))
 
--- src/lib.rt:122:34
 enum-told : tie.Need-enum-told
 enum-told c = search needs
 
--- src/lib.rt:122:34
 sub-result : tie.Need-sub-result
 sub-result c = search needs
 
--- src/lib.rt:122:34
 part-result-start : tie.Need-part-result-start
 part-result-start c = search needs
 
--- src/lib.rt:122:34
 part-result-end : tie.Need-part-result-end
 part-result-end c = search needs
 
--- src/lib.rt:116:1
 returns : tie.Need-returns
 returns c = located-part _ _ _ (c .before .before .before .before .locate .ensures) (c .before .before .at .given .1) (c .body-of .ensures)
 
--- src/lib.rt:116:1
 returns-2 : tie.Need-returns-2
 returns-2 c = unlocated-part _ _ _ (c .before .before .before .locate .ensures) (c .before .enum-told .given .1)
 

@@ -10,15 +10,12 @@ use Rattle.store.proofs.read_offset.Reads as reads
 use Rattle.store.proofs.read_offset.Lts as lts
 use Rattle.store.proofs.locate.Reads as locate-reads
 
--- src/lib.rt:142:9
 locate-requires : tie.Need-locate-requires
 locate-requires c κs = search needs
 
--- src/lib.rt:144:22
 enum-known-at : tie.Need-enum-known-at
 enum-known-at c = search needs
 
--- src/lib.rt:145:26
 mul-offset : tie.Need-mul-offset
 mul-offset c =
     let e = c .before .before .before .locate .ensures in
@@ -27,7 +24,6 @@ mul-offset c =
     let f = form-of _ (located-formed _ _ _ e q) .size in
     omega (arith, cell-inside _ _ _ (located-formed _ _ _ e q) (located-present _ _ _ e q), f .whole, f .most)
 
--- src/lib.rt:145:26
 add-offset : tie.Need-add-offset
 add-offset c =
     let e = c .before .before .before .locate .ensures in
@@ -36,11 +32,9 @@ add-offset c =
     let f = form-of _ (located-formed _ _ _ e q) .size in
     omega (arith, cell-inside _ _ _ (located-formed _ _ _ e q) (located-present _ _ _ e q), f .whole, f .most)
 
--- src/lib.rt:148:25
 enum-known-at-2 : tie.Need-enum-known-at-2
 enum-known-at-2 c = search needs
 
--- src/lib.rt:139:1
 returns : tie.Need-returns
 unfolding readOffset
 returns c =
@@ -48,7 +42,6 @@ returns c =
     let q = c .before .at .given .1 in
     rw (located _ _ _ e q .1) (located-judged _ _ _ e q _)
 
--- src/lib.rt:139:1
 returns-2 : tie.Need-returns-2
 unfolding readOffset
 returns-2 c = unlocated-judged _ _ _ (c .before .before .before .locate .ensures) (c .before .at2 .given .1) _

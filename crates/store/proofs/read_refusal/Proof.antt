@@ -7,24 +7,19 @@ use Rattle.store.proofs.read_refusal.Reads as reads
 use Rattle.store.proofs.read_refusal.Lts as lts
 use Rattle.store.proofs.locate.Reads as locate-reads
 
--- src/lib.rt:130:9
 locate-requires : tie.Need-locate-requires
 locate-requires c κs = search needs
 
--- src/lib.rt:132:28
 enum-told : tie.Need-enum-told
 enum-told c = search needs
 
--- src/lib.rt:133:25
 enum-known-at : tie.Need-enum-known-at
 enum-known-at c = search needs
 
--- src/lib.rt:127:1
 returns : tie.Need-returns
 unfolding readRefusal
 returns c = located-judged _ _ _ (c .before .before .locate .ensures) (c .enum-told .given .1) _
 
--- src/lib.rt:127:1
 returns-2 : tie.Need-returns-2
 unfolding readRefusal
 returns-2 c = unlocated-judged _ _ _ (c .before .before .before .locate .ensures) (c .before .at .given .1) _

@@ -14,38 +14,30 @@ use Rattle.chains.proofs.find.find.Reads as find-reads
 use Rattle.store.proofs.check_key.Reads as check-key-reads
 use Rattle.entries.proofs.filling.fill.Reads as fill-reads
 
--- src/lib.rt:51:9
 check-key-requires : tie.Need-check-key-requires
 check-key-requires c κs = search needs
 
--- src/lib.rt:52:25
 enum-known-found : tie.Need-enum-known-found
 enum-known-found c = search needs
 
--- src/lib.rt:53:9
 same-length : tie.Need-same-length
 same-length c = search needs
 
--- src/lib.rt:53:9
 returns : tie.Need-returns
 returns c = take-stopped _ _ _ _ _ (c .before .before .before .check-key .ensures) (c .before .found .given .1)
 
 enum-told : tie.Need-enum-told
 enum-told c = search needs
 
--- src/lib.rt:55:9
 find-requires : tie.Need-find-requires
 find-requires c κs = key-clear _ _ (sym (c .before .before .before .check-key .ensures) ∙ c .before .enum-told .given .1) .1
 
--- src/lib.rt:57:32
 enum-told-2 : tie.Need-enum-told-2
 enum-told-2 c = search needs
 
--- src/lib.rt:57:9
 same-length-2 : tie.Need-same-length-2
 same-length-2 c = search needs
 
--- src/lib.rt:57:9
 returns-2 : tie.Need-returns-2
 returns-2 c =
     take-present _ _ _ (c .before .before .before .before .before .before .check-key .ensures) (c .before .before .before .before .enum-told .given .1) (found-present _ _ _ (c .before .before .find .ensures) (c .enum-told2 .given .1))
@@ -53,24 +45,20 @@ returns-2 c =
 enum-told-3 : tie.Need-enum-told-3
 enum-told-3 c = search needs
 
--- src/lib.rt:59:9
 index-at-requires : tie.Need-index-at-requires
 index-at-requires c κs =
     let f = form-of _ (key-clear _ _ (sym (c .before .before .before .before .before .before .before .check-key .ensures) ∙ c .before .before .before .before .before .enum-told .given .1) .1) in
     omega (arith, f .size .least)
 
--- src/lib.rt:61:9
 same-length-3 : tie.Need-same-length-3
 same-length-3 c = search needs
 
--- src/lib.rt:61:9
 returns-3 : tie.Need-returns-3
 unfolding firstFree
 returns-3 c =
     take-full _ _ _ (c .before .before .before .before .before .before .before .before .before .check-key .ensures) (c .before .before .before .before .before .before .before .enum-told .given .1) (found-absent _ _ _ (c .before .before .before .before .before .find .ensures) (c .before .before .before .enum-told3 .given .1))
     (sym (c .before .index-at .ensures) ∙ c .if1 .taken)
 
--- src/lib.rt:63:5
 fill-requires : tie.Need-fill-requires
 unfolding firstFree
 fill-requires c κs =
@@ -78,11 +66,9 @@ fill-requires c κs =
     let e = c .before .before .index-at .ensures in
     (h .0, (e, rw e (free-inside _ (h .1) (λ z. c .before .if1 .left (e ∙ z)))))
 
--- src/lib.rt:48:1
 same-length-4 : tie.Need-same-length-4
 same-length-4 c = search needs
 
--- src/lib.rt:48:1
 returns-4 : tie.Need-returns-4
 unfolding firstFree
 returns-4 c =

@@ -9,15 +9,12 @@ use Rattle.store.proofs.total.Lts as lts
 use Rattle.store.proofs.check_key.Reads as check-key-reads
 use Rattle.entries.proofs.summing.sum_up.Reads as sum-up-reads
 
--- src/lib.rt:93:9
 check-key-requires : tie.Need-check-key-requires
 check-key-requires c κs = search needs
 
--- src/lib.rt:94:25
 enum-known-found : tie.Need-enum-known-found
 enum-known-found c = search needs
 
--- src/lib.rt:95:9
 returns : tie.Need-returns
 unfolding totalCall totalChecks
 returns c = total-stopped _ _ _ _ _ _ (c .before .before .before .check-key .ensures) (c .before .found .given .1)
@@ -25,11 +22,9 @@ returns c = total-stopped _ _ _ _ _ _ (c .before .before .before .check-key .ens
 enum-told : tie.Need-enum-told
 enum-told c = search needs
 
--- src/lib.rt:97:5
 sum-up-requires : tie.Need-sum-up-requires
 sum-up-requires c κs = key-clear _ _ (sym (c .before .before .check-key .ensures) ∙ c .enum-told .given .1)
 
--- src/lib.rt:90:1
 returns-2 : tie.Need-returns-2
 unfolding totalCall totalChecks
 returns-2 c = c .sum-up .ensures ∙ total-on _ _ _ _ (c .before .before .before .check-key .ensures) (c .before .enum-told .given .1)

@@ -16,69 +16,55 @@ use Rattle.cells.proofs.writing.put_front.Reads as put-front-reads
 use Rattle.cells.proofs.writing.put_index.Reads as put-index-reads
 use Rattle.sales.proofs.write_sale.Reads as write-sale-reads
 
--- src/filling.rt:23:9
 index-at-requires : tie.Need-index-at-requires
 unfolding cells
 index-at-requires c κs = omega arith
 
--- src/filling.rt:24:9
 next-of-requires : tie.Need-next-of-requires
 unfolding cells
 next-of-requires c κs = omega arith
 
--- src/filling.rt:25:5
 put-front-requires : tie.Need-put-front-requires
 unfolding cells
 put-front-requires c κs = omega arith
 
--- src/filling.rt:26:14
 mul-at : tie.Need-mul-at
 unfolding cells
 mul-at c = omega arith
 
--- src/filling.rt:27:32
 add-write-sale : tie.Need-add-write-sale
 unfolding cells
 add-write-sale c = omega arith
 
--- src/filling.rt:27:40
 add-write-sale-2 : tie.Need-add-write-sale-2
 unfolding cells
 add-write-sale-2 c = omega arith
 
--- src/filling.rt:27:25
 sub-write-sale : tie.Need-sub-write-sale
 sub-write-sale c = search needs
 
--- src/filling.rt:27:25
 part-write-sale-start : tie.Need-part-write-sale-start
 part-write-sale-start c = search needs
 
--- src/filling.rt:27:25
 part-write-sale-end : tie.Need-part-write-sale-end
 unfolding cells
 part-write-sale-end c = omega arith
 
--- src/filling.rt:27:5
 write-sale-requires : tie.Need-write-sale-requires
 unfolding cells
 write-sale-requires c κs = (c .before .before .before .before .before .before .before .before .before .before .before .pre .0, simp (length-take, length-drop) (omega arith))
 
--- src/filling.rt:28:5
 put-index-requires : tie.Need-put-index-requires
 unfolding cells
 put-index-requires c κs = omega arith
 
--- src/filling.rt:29:5
 put-index-requires-2 : tie.Need-put-index-requires-2
 unfolding cells
 put-index-requires-2 c κs = omega arith
 
--- src/filling.rt:19:1
 same-length : tie.Need-same-length
 same-length c = search needs
 
--- src/filling.rt:19:1
 returns : tie.Need-returns
 unfolding cells
 returns c =

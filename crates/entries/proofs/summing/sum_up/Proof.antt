@@ -27,28 +27,22 @@ Inv-loop key s left₀ sum₀ at₀ left sum at = Summing key s left sum at
 abbrev μ-loop : tie.MeasureT-loop
 μ-loop key s left₀ sum₀ at₀ left sum at = left
 
--- src/summing.rt:28:9
 index-at-requires : tie.Need-index-at-requires Inv-loop μ-loop
 index-at-requires c κs = let f = form-of _ (c .before .before .pre .1) in omega (arith, f .size .least)
 
--- src/summing.rt:29:9
 loop-holds : tie.Need-loop-holds Inv-loop μ-loop
 unfolding cells firstSale
 loop-holds c = rw (c .index-at .ensures) (sum-start _ _ (c .before .before .before .pre .1))
 
--- src/summing.rt:33:37
 body-of-requires : tie.Need-body-of-requires Inv-loop μ-loop
 body-of-requires c κs = sum-onward _ _ _ _ _ (c .before .loop .inv) (c .if1 .left) .inside
 
--- src/summing.rt:33:13
 open-sale-requires : tie.Need-open-sale-requires Inv-loop μ-loop
 open-sale-requires c κs = (c .before .before .before .before .before .before .pre .0, rw (c .body-of .ensures) (body-length _ _ (sum-onward _ _ _ _ _ (c .before .before .loop .inv) (c .before .if1 .left) .inside)))
 
--- src/summing.rt:37:16
 cash-of-requires : tie.Need-cash-of-requires Inv-loop μ-loop
 cash-of-requires c κs = search needs
 
--- src/summing.rt:37:9
 add-sum : tie.Need-add-sum Inv-loop μ-loop
 add-sum c =
     let f = form-of _ (c .before .before .before .before .before .before .before .before .before .before .pre .1) in
@@ -59,21 +53,17 @@ add-sum c =
     let e = c .cash-of .ensures in
     omega (arith, k .room, n .steps, f .size .most, f .size .whole)
 
--- src/summing.rt:38:9
 sub-left : tie.Need-sub-left Inv-loop μ-loop
 sub-left c = sum-onward _ _ _ _ _ (c .before .before .before .before .before .before .loop .inv) (c .before .before .before .before .before .if1 .left) .steps
 
--- src/summing.rt:39:9
 next-of-requires : tie.Need-next-of-requires Inv-loop μ-loop
 next-of-requires c κs = sum-onward _ _ _ _ _ (c .before .before .before .before .before .before .loop .inv) (c .before .before .before .before .before .if1 .left) .inside
 
--- src/summing.rt:29:9
 loop-less : tie.Need-loop-less Inv-loop μ-loop
 loop-less c =
     let n = sum-onward _ _ _ _ _ (c .before .before .before .before .before .before .before .loop .inv) (c .before .before .before .before .before .before .if1 .left) .steps in
     omega arith
 
--- src/summing.rt:29:9
 loop-again : tie.Need-loop-again Inv-loop μ-loop
 unfolding opensAt saleAt
 loop-again c =
@@ -88,12 +78,10 @@ loop-again c =
     let w = rw body at (sale .means-is) in
     rw (c .next-of .ensures) (sum-on _ _ _ _ _ k (c .before .before .before .before .before .before .if1 .left) _ o (e ∙ rw (m, w) (held-cash _ _ o _)) (omega arith))
 
--- src/summing.rt:22:1
 returns : tie.Need-returns Inv-loop μ-loop
 unfolding summed
 returns c = sum-end _ _ _ _ _ (c .before .loop .inv) (c .if1 .taken)
 
--- src/summing.rt:22:1
 returns-2 : tie.Need-returns-2 Inv-loop μ-loop
 unfolding summed opensAt
 returns-2 c =
