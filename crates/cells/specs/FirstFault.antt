@@ -1,4 +1,4 @@
--- The first fault and card 1's sentence: what is refused, and what is not (document 02, cards 1 and 7). Which fault comes first is Faults' definition. Assumes nothing.
+-- The first fault and card 1's sentence, with card 8's kinds: what is refused, and what is not (document 02, cards 1, 7 and 8). Which fault comes first is Faults' definition. Assumes nothing.
 use mathlib.Core.Path.{_≡_}
 use mathlib.Core.Bool.{true}
 use mathlib.Core.List.{List, []}
@@ -11,7 +11,7 @@ use Rattle.cells.specs.declared.Fault.the-variants.{Index, Kind}
 
 -- for every list of bytes; proved as first-fault in proofs/FirstFault
 pub record FirstFault : Type 0 where
-  -- none of 18, 19 and 20 is found exactly where the form is as card 1 says: the length as said, no index past the last cell, each kind fitting its chain, and the two chains covering every cell but 0 exactly once
+  -- none of 18, 19 and 20 is found exactly where the form is as cards 1 and 8 say: the length as said, no index past the last cell, each kind fitting its chain, and the two chains covering every cell but 0 exactly once
   pub clear-formed : (s : List ℕ) → faultCheck (faultOf s) Clear ≡ Clear → formed s ≡ true
   pub formed-clear : (s : List ℕ) → formed s ≡ true → faultCheck (faultOf s) Clear ≡ Clear
   -- the place of 19 and of 20 is a cell of the store, that of 20 never cell 0

@@ -41,5 +41,5 @@ pub record ForC : Type 0 where
   pub of-look-up : (key : List ℕ) (machine sale : ℕ) (s : List ℕ) → Decodes (kindTold (lookUpCall key machine sale s))
   -- where a look-up is not refused its value is the kind byte of the sale's cell
   pub look-up-kind : (key : List ℕ) (machine sale : ℕ) (s : List ℕ) → kindTold (lookUpCall key machine sale s) ≡ judged (cancelChecks key machine sale s) (Done (kindOf s (cellNamed machine sale s)))
-  -- C can tell every two look-ups apart by the number and the two variables, whatever these held before: so "a mark for no price" is "told apart from price 0" and from every other
-  pub look-ups-apart : (a b : LookUp) (amount price : ℕ) → valueOf (kindTold a) < 2 ^ 32 → valueOf (kindTold b) < 2 ^ 32 → lookedUp a amount price ≡ lookedUp b amount price → a ≡ b
+  -- C can tell every two look-ups apart by the number and the two variables, whatever these held before each: so "a mark for no price" is "told apart from price 0" and from every other
+  pub look-ups-apart : (a b : LookUp) (amount price amount′ price′ : ℕ) → valueOf (kindTold a) < 2 ^ 32 → valueOf (kindTold b) < 2 ^ 32 → lookedUp a amount price ≡ lookedUp b amount′ price′ → a ≡ b

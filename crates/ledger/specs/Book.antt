@@ -105,12 +105,12 @@ unfoldable pub amountBack : List StoredSale → Answer
 amountBack [] = Refused SaleNumbers 0
 amountBack (x ∷ l) = Done (x .amount)
 
--- what a look-up has to answer, by the amount and the last field of the sale that stands under its numbers: both, or for one with a clock the amount and the mark for no price
+-- what a look-up has to answer, by the amount and the last field of the sale that stands under its numbers (card 8: "gives both, or for kind 1 the amount and a mark for no price")
 unfoldable pub bothOf : ℕ → Detail → LookUp
 bothOf amount (listed price day) = Priced amount price
 bothOf amount (clock bytes) = Unpriced amount
 
--- 16 where there is no such sale
+-- 16 where there is no such sale ("16 machine and sale number [..] absent")
 unfoldable pub bothTold : List StoredSale → LookUp
 bothTold [] = LookUpRefused SaleNumbers 0
 bothTold (x ∷ l) = bothOf (x .amount) (x .detail)

@@ -133,13 +133,14 @@ look-up-back (Priced a p) amount price = refl
 look-up-back (Unpriced a) amount price = refl
 look-up-back (LookUpRefused g at) amount price = refl
 
-pub look-ups-apart : (a b : LookUp) (amount price : ℕ) → valueOf (kindTold a) < 2 ^ 32 → valueOf (kindTold b) < 2 ^ 32 → lookedUp a amount price ≡ lookedUp b amount price → a ≡ b
+pub look-ups-apart : (a b : LookUp) (amount price amount′ price′ : ℕ) → valueOf (kindTold a) < 2 ^ 32 → valueOf (kindTold b) < 2 ^ 32
+    → lookedUp a amount price ≡ lookedUp b amount′ price′ → a ≡ b
 unfolding lookedUp
-look-ups-apart a b amount price h k e =
+look-ups-apart a b amount price amount′ price′ h k e =
     let number = told-apart (kindTold a) (kindTold b) h k (ap (λ (r : ℕ × (ℕ × ℕ)). r .0) e) in
     let one = ap (λ (r : ℕ × (ℕ × ℕ)). r .1 .0) e in
     let other = ap (λ (r : ℕ × (ℕ × ℕ)). r .1 .1) e in
-    sym (look-up-back a amount price) ∙ rw (number, one, other) (look-up-back b amount price)
+    sym (look-up-back a amount price) ∙ rw (number, one, other) (look-up-back b amount′ price′)
 
 -- total's value may be larger; its place is not
 pub total-place : (key s : List ℕ) → placeOf (totalChecks key s) < 2 ^ 32

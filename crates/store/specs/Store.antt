@@ -55,7 +55,7 @@ totalChecks key s = keyChecks key s (lineAt (some (shutAt key s) (sales s)) TagD
 unfoldable pub readChecks : ℕ → ℕ → List ℕ → Check
 readChecks machine sale s = formChecks s (line (not (present machine sale s)) SaleNumbers Clear)
 
--- what the checks find, refused in this way; the result where they are clear
+-- what the checks find, refused in this way; the result where they are clear (document 01: "A refusal returns its number and a place")
 unfoldable pub refusedOr : {A : Type 0} → (Ground → ℕ → A) → Check → A → A
 refusedOr refuse Clear result = result
 refusedOr refuse (Fails ground place) result = refuse ground place
@@ -99,7 +99,7 @@ unfoldable pub pricedBy : ℕ → Detail → LookUp
 pricedBy amount (listed price day) = Priced amount price
 pricedBy amount (clock bytes) = Unpriced amount
 
--- amount and price of a sale
+-- amount and price of a sale ("gives both")
 unfoldable pub amountAndPrice : StoredSale → LookUp
 amountAndPrice x = pricedBy (x .amount) (x .detail)
 
@@ -107,7 +107,7 @@ amountAndPrice x = pricedBy (x .amount) (x .detail)
 unfoldable pub lookUpCall : List ℕ → ℕ → ℕ → List ℕ → LookUp
 lookUpCall key machine sale s = refusedOr LookUpRefused (cancelChecks key machine sale s) (amountAndPrice (saleAt key s (cellNamed machine sale s)))
 
--- each case's number: the sale's kind, 2 with a price and 1 without; or the refusal's number and place
+-- each case as an answer: on success the sale's kind as the value, 2 with a price and 1 without; else the refusal, with its number and place. From here on for C; no passage of documents 01 and 02
 unfoldable pub kindTold : LookUp → Answer
 kindTold (Priced amount price) = Done priced
 kindTold (Unpriced amount) = Done unpriced
@@ -119,7 +119,7 @@ amountTold (Priced amount price) before = amount
 amountTold (Unpriced amount) before = amount
 amountTold (LookUpRefused ground place) before = before
 
--- and that for the price: unchanged where there is none
+-- and that for the price: unchanged where there is none, and where refused
 unfoldable pub priceTold : LookUp → ℕ → ℕ
 priceTold (Priced amount price) before = price
 priceTold (Unpriced amount) before = before
