@@ -5,7 +5,7 @@ use mathlib.Core.List.{List, [], _∷_}
 use Prim.Native.Nat.{ℕ, zero, suc, _/_, _%_, _^_, _<_}
 use lib.Arith.{digits-div, digits-mod}
 use lib.Dec.{eqb, lit<}
-use Rattle.answers.specs.Answers.{groundNumber, numberOf, valueOf, codeOf, judged, shown, totalled}
+use Rattle.answers.specs.Answers.{groundNumber, numberOf, valueOf, codeOf, refusedOr, judged, shown, totalled}
 use Rattle.answers.specs.declared.Ground.{Ground}
 use Rattle.answers.specs.declared.Ground.the-variants.{ModeNumber, Rounds, KeyLength, NonceLength, HeaderLength, InputLength, OutputLength, TagMissing, TagDiffers, StartLength, NetCount, StepByte, ListLength, StoreFull, SaleNumbers, DoneAlready, StoreLength, StoreIndex, StoreKind}
 use Rattle.answers.specs.declared.Check.{Check}
@@ -69,7 +69,7 @@ told-apart a b h k e =
 -- ---- total's answer, and its variable
 
 pub shown-lt : (c : Check) (v : ℕ) → placeOf c < 2 ^ 32 → valueOf (shown (judged c (Done v))) < 2 ^ 32
-unfolding judged
+unfolding judged refusedOr
 shown-lt Clear v h = lit< tt
 shown-lt (Fails g at) v h = h
 

@@ -4,7 +4,7 @@ use mathlib.Core.Bool.{Bool, true, false, true≢false}
 use Prim.Native.Nat.{ℕ, _≤_, _<_}
 use borrow.Author.Tests.{ltb-false}
 use lib.Dec.{ltb}
-use Rattle.answers.specs.Answers.{valueOf, lineAt, line, room, checked, judged}
+use Rattle.answers.specs.Answers.{valueOf, lineAt, line, room, checked, refusedOr, judged}
 use Rattle.answers.specs.declared.Ground.{Ground}
 use Rattle.answers.specs.declared.Ground.the-variants.{OutputLength}
 use Rattle.answers.specs.declared.Check.{Check}
@@ -89,12 +89,12 @@ asCheck (Done value) = Clear
 asCheck (Refused ground place) = Fails ground place
 
 pub judged-done : (c : Check) (v w : ℕ) → judged c (Done v) ≡ Done w → (c ≡ Clear) × (v ≡ w)
-unfolding judged
+unfolding judged refusedOr
 judged-done Clear v w e = (refl, ap valueOf e)
 judged-done (Fails g at) v w e = absurd (true≢false (sym (ap isDone e)))
 
 pub judged-refused : (c : Check) (v : ℕ) (g : Ground) (at : ℕ) → judged c (Done v) ≡ Refused g at → c ≡ Fails g at
-unfolding judged
+unfolding judged refusedOr
 judged-refused Clear v g at e = absurd (true≢false (ap isDone e))
 judged-refused (Fails h k) v g at e = ap asCheck e
 
@@ -117,7 +117,7 @@ checked-lt n Clear out r h k = k refl
 checked-lt n (Fails g at) out r h k = h
 
 pub judged-lt : (n : ℕ) (c : Check) (a : Answer) → placeOf c < n → (c ≡ Clear → valueOf a < n) → valueOf (judged c a) < n
-unfolding judged
+unfolding judged refusedOr
 judged-lt n Clear a h k = k refl
 judged-lt n (Fails g at) a h k = h
 

@@ -85,7 +85,11 @@ unfoldable pub checked : {A : Type 0} → Check → A → Answer × A → Answer
 checked (Fails ground place) before result = (Refused ground place, before)
 checked Clear before result = result
 
+-- a result of any kind after checks: what they find, refused in this way; where they are clear the result given
+unfoldable pub refusedOr : {A : Type 0} → (Ground → ℕ → A) → Check → A → A
+refusedOr refuse (Fails ground place) result = refuse ground place
+refusedOr refuse Clear result = result
+
 -- a call that writes nothing: what its checks find, or the answer given
 unfoldable pub judged : Check → Answer → Answer
-judged (Fails ground place) answer = Refused ground place
-judged Clear answer = answer
+judged c answer = refusedOr Refused c answer

@@ -4,7 +4,7 @@ use mathlib.Core.Bool.{true, false}
 use mathlib.Core.List.{List, map}
 use Prim.Native.Nat.{ℕ, _+_, _-_, _*_, _^_, _≤_, _<_}
 use native.Mathlib.Omega.{arith}
-use Rattle.answers.specs.Answers.{lineAt, judged}
+use Rattle.answers.specs.Answers.{lineAt, refusedOr, judged}
 use Rattle.answers.specs.declared.Ground.the-variants.{TagDiffers}
 use Rattle.answers.specs.declared.Check.the-variants.{Clear}
 use Rattle.answers.specs.declared.Answer.{Answer}
@@ -35,7 +35,7 @@ module _ (key s : List ℕ) where
 
   module _ (left sum at : ℕ) (k : Summing left sum at) where
     pub sum-end : at ≡ 0 → Done sum ≡ summed
-    unfolding summed lineAt judged some cash
+    unfolding summed lineAt judged refusedOr some cash
     sum-end z =
         let e = along-end s left at (k .rest) (k .along) z in
         let none : some (shutAt key s) (sales s) ≡ false = k .some-is ∙ ap (some (shutAt key s)) e in
@@ -47,7 +47,7 @@ module _ (key s : List ℕ) where
 
     module _ (z : at ≡ 0 → ⊥) where
       pub sum-shut : opensAt key s at ≡ false → Refused TagDiffers at ≡ summed
-      unfolding summed lineAt judged some first shutAt
+      unfolding summed lineAt judged refusedOr some first shutAt
       sum-shut o =
           let e = sum-onward z .split in
           let found : some (shutAt key s) (sales s) ≡ true = k .some-is ∙ ap (some (shutAt key s)) e ∙ rw o in

@@ -17,7 +17,7 @@ use Rattle.blockplan.specs.Parcel.{same, parcelOf, cipherPart, tagPart, message
 use Rattle.opp.specs.Opp.{padded, oppSum, oppCheck, oppTag, sealAt, openAt, oppStream, oppCipher, oppPlain, oppMode}
 use Rattle.mro.specs.Mro.{blocks, mroSum, lengths, mroTag, counter, mroStream, streamed, mroCipher, mroMode}
 use Rattle.modes.specs.Modes.{modeOf}
-use Rattle.answers.specs.Answers.{codeOf, totalled, lineAt, line, room, checked, judged}
+use Rattle.answers.specs.Answers.{codeOf, totalled, lineAt, line, room, checked, refusedOr, judged}
 use Rattle.checks.specs.Checks.{isMode, isOneOf, isRounds, settings, sealInputs, openInputs, sealChecks, openChecks, convertChecks, larger, runLength, sealRunChecks, openRunChecks}
 use Rattle.sealing.specs.Sealing.{verdict, sealFrom, openFrom, sealCall, openCall, openOldCall}
 use Rattle.converting.specs.Converting.{converted, convertCall}
@@ -31,7 +31,7 @@ use Rattle.cells.specs.Faults.{walkOf, salesWalk, freeWalk, lengthOr, brokenOr,
 use Rattle.cells.specs.Changes.{cellBytes, freshCell, fresh, filled, emptied}
 use Rattle.sales.specs.Sale.{nonceOf, recordOf, saleMode, bodyFor, storedAs, opens, recordIn, detailIn, saleIn, cashOf}
 use Rattle.entries.specs.Entries.{opensAt, shutAt, saleAt, salesIn, cash}
-use Rattle.store.specs.Store.{formChecks, keyChecks, formatChecks, takeChecks, cancelChecks, totalChecks, readChecks, formatCall, takeCall, cancelCall, totalCall, refusedOr, readPart, readRefusal, readOffset, pricedBy, amountAndPrice, lookUpCall, kindTold, amountTold, priceTold, lookedUp}
+use Rattle.store.specs.Store.{formChecks, keyChecks, formatChecks, takeChecks, cancelChecks, totalChecks, readChecks, formatCall, takeCall, cancelCall, totalCall, readPart, readRefusal, readOffset, pricedBy, amountAndPrice, lookUpCall, kindTold, amountTold, priceTold, lookedUp}
 use Rattle.words.proofs.Truth.{allBelow, carried}
 use Rattle.blockplan.proofs.Compared.{same-true}
 use Rattle.known_answers.proofs.Zeros.{zero-tags, zero-parcel}

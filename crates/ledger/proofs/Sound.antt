@@ -9,7 +9,7 @@ use lib.Dec.{eqb, ltb}
 use lib.ListN.{length, length-map}
 use borrow.Author.Tests.{eq-eqb, ne-eqb, eqb-true, eqb-false, lt-ltb, le-ltb, not-false}
 use Rattle.words.specs.Block.{Bytes}
-use Rattle.answers.specs.Answers.{line, lineAt, checked, judged}
+use Rattle.answers.specs.Answers.{line, lineAt, checked, refusedOr, judged}
 use Rattle.answers.specs.declared.Ground.the-variants.{KeyLength, SaleNumbers, TagDiffers, StoreFull}
 use Rattle.answers.specs.declared.Check.{Check}
 use Rattle.answers.specs.declared.Check.the-variants.{Clear}
@@ -31,7 +31,7 @@ use Rattle.sales.specs.Sale.Detail.{clock, listed}
 use Rattle.sales.proofs.Bodies.{body-long, body-opens, body-sale}
 use Rattle.entries.specs.Entries.{opensAt, shutAt, saleAt, salesIn, cash}
 use Rattle.store.specs.declared.LookUp.the-variants.{Refused as LookUpRefused}
-use Rattle.store.specs.Store.{formChecks, keyChecks, formatChecks, takeChecks, cancelChecks, totalChecks, readChecks, takeCall, cancelCall, totalCall, refusedOr, readPart, pricedBy, amountAndPrice, lookUpCall}
+use Rattle.store.specs.Store.{formChecks, keyChecks, formatChecks, takeChecks, cancelChecks, totalChecks, readChecks, takeCall, cancelCall, totalCall, readPart, pricedBy, amountAndPrice, lookUpCall}
 use Rattle.ledger.specs.Book.{isNamed, found, without, coins, amountBack, bothOf, bothTold, cellTaken}
 use Rattle.ledger.specs.Conserved.{heldIn}
 use Rattle.ledger.proofs.Sales.{map-ext, without-map, found-map, cash-coins}
@@ -100,7 +100,7 @@ module _ (key : List ℕ) where
 
   -- total gives the coin amounts of the sales of a sound store
   pub total-sound : (s : List ℕ) → length key ≡ 32 → Sound key s → totalCall key s ≡ Done (coins (salesIn key s))
-  unfolding totalCall totalChecks lineAt judged
+  unfolding totalCall totalChecks lineAt judged refusedOr
   total-sound s k h =
       let next = lineAt (some (shutAt key s) (sales s)) TagDiffers (first (shutAt key s) (sales s)) Clear in
       rw (keys-next key s next k (h .form), in-none (shutAt key s) (sales s) (λ c i. shut-open s c (h .all-open c i)), cash-coins (salesIn key s))

@@ -6,7 +6,7 @@ use Prim.Native.Nat.{ℕ}
 use lib.Dec.{eqb}
 use lib.ListN.{length}
 use borrow.Author.Tests.{eq-eqb, ne-eqb, eqb-true, not-false}
-use Rattle.answers.specs.Answers.{lineAt, line, checked, judged}
+use Rattle.answers.specs.Answers.{lineAt, line, checked, refusedOr, judged}
 use Rattle.answers.specs.declared.Ground.{Ground}
 use Rattle.answers.specs.declared.Ground.the-variants.{KeyLength, TagDiffers, StoreFull, SaleNumbers}
 use Rattle.answers.specs.declared.Check.{Check}
@@ -25,7 +25,7 @@ use Rattle.entries.specs.Entries.{opensAt, shutAt, saleAt}
 use Rattle.store.specs.declared.LookUp.the-variants.{Priced, Unpriced, Refused as LookUpRefused}
 use Rattle.store.specs.declared.Named.{Named}
 use Rattle.store.specs.declared.Named.the-variants.{Open, Refused as NamedRefused}
-use Rattle.store.specs.Store.{formChecks, keyChecks, takeChecks, cancelChecks, readChecks, takeCall, cancelCall, refusedOr, readPart, pricedBy, amountAndPrice, lookUpCall}
+use Rattle.store.specs.Store.{formChecks, keyChecks, takeChecks, cancelChecks, readChecks, takeCall, cancelCall, readPart, pricedBy, amountAndPrice, lookUpCall}
 use Rattle.store.specs.Named.{namedOf}
 
 -- ---- the checks that stand in front
@@ -227,11 +227,11 @@ module _ (key : List ℕ) (machine sale : ℕ) (s : List ℕ) where
 -- ---- calls that write nothing
 
 judged-fails : {c : Check} (g : Ground) (at : ℕ) (r : Answer) → c ≡ Fails g at → Refused g at ≡ judged c r
-unfolding judged
+unfolding judged refusedOr
 judged-fails g at r e = sym (ap (λ (x : Check). judged x r) e)
 
 judged-clear : {c : Check} (r : Answer) → c ≡ Clear → r ≡ judged c r
-unfolding judged
+unfolding judged refusedOr
 judged-clear r e = sym (ap (λ (x : Check). judged x r) e)
 
 -- total: the first checks, then the rest

@@ -10,7 +10,7 @@ use lib.ListN.{length}
 use borrow.Author.Tests.{eq-eqb, ne-eqb, eqb-false, not-false}
 use Rattle.words.specs.Block.{Bytes}
 use Rattle.words.proofs.Blocks.{bytes-take, bytes-drop}
-use Rattle.answers.specs.Answers.{valueOf, line, judged}
+use Rattle.answers.specs.Answers.{valueOf, line, refusedOr, judged}
 use Rattle.answers.specs.declared.Ground.the-variants.{KeyLength, TagDiffers, StoreFull, SaleNumbers}
 use Rattle.answers.specs.declared.Check.{Check}
 use Rattle.answers.specs.declared.Check.the-variants.{Clear, Fails}
@@ -30,7 +30,7 @@ use Rattle.sales.proofs.Bodies.{amount-lt}
 use Rattle.entries.specs.Entries.{shutAt, saleAt}
 use Rattle.store.specs.declared.LookUp.{LookUp}
 use Rattle.store.specs.declared.LookUp.the-variants.{Priced, Unpriced, Refused as LookUpRefused}
-use Rattle.store.specs.Store.{formChecks, keyChecks, formatChecks, takeChecks, cancelChecks, totalChecks, readChecks, formatCall, takeCall, cancelCall, readOffset, pricedBy, amountAndPrice, refusedOr, lookUpCall, kindTold, amountTold, priceTold, lookedUp}
+use Rattle.store.specs.Store.{formChecks, keyChecks, formatChecks, takeChecks, cancelChecks, totalChecks, readChecks, formatCall, takeCall, cancelCall, readOffset, pricedBy, amountAndPrice, lookUpCall, kindTold, amountTold, priceTold, lookedUp}
 use Rattle.store.proofs.Sought.{cell-inside, free-inside}
 use Rattle.store.proofs.Calls.{key-all}
 

@@ -4,7 +4,8 @@ use Prim.Native.Nat.{ℕ}
 use Rattle.cells.specs.Numbers.{numberAt}
 use Rattle.cells.specs.Cells.{bodyOf, cellNamed, cellBefore}
 use Rattle.sales.specs.Sale.{recordIn}
-use Rattle.store.specs.Store.{cancelChecks, refusedOr}
+use Rattle.answers.specs.Answers.{refusedOr}
+use Rattle.store.specs.Store.{cancelChecks}
 use Rattle.store.specs.declared.Named.{Named}
 use Rattle.store.specs.declared.Named.the-variants.{Open, Refused}
 

@@ -4,8 +4,7 @@ use mathlib.Core.List.{List, []}
 use Prim.Native.Nat.{ℕ, _+_, _*_}
 use lib.Dec.{eqb}
 use lib.ListN.{length}
-use Rattle.answers.specs.Answers.{codeOf, line, lineAt, checked, judged}
-use Rattle.answers.specs.declared.Ground.{Ground}
+use Rattle.answers.specs.Answers.{codeOf, line, lineAt, checked, refusedOr, judged}
 use Rattle.answers.specs.declared.Ground.the-variants.{KeyLength, TagDiffers, StoreFull, SaleNumbers}
 use Rattle.answers.specs.declared.Check.{Check}
 use Rattle.answers.specs.declared.Check.the-variants.{Clear, Fails}
@@ -54,11 +53,6 @@ totalChecks key s = keyChecks key s (lineAt (some (shutAt key s) (sales s)) TagD
 -- read, which takes no key: 16 where machine and sale number are absent
 unfoldable pub readChecks : ℕ → ℕ → List ℕ → Check
 readChecks machine sale s = formChecks s (line (not (present machine sale s)) SaleNumbers Clear)
-
--- what the checks find, refused in this way; the result where they are clear (document 01: "A refusal returns its number and a place")
-unfoldable pub refusedOr : {A : Type 0} → (Ground → ℕ → A) → Check → A → A
-refusedOr refuse Clear result = result
-refusedOr refuse (Fails ground place) result = refuse ground place
 
 -- ---- calls: the answer, and the store afterwards; a refused call changes no byte of it
 
