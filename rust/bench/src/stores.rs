@@ -148,10 +148,18 @@ fn read(by: &Store, store: &mut [u8], _: u32) -> u64 {
 
 /// Answers amount and price, or what they are not where it is refused or the sale has no price.
 fn look_up(by: &Store, store: &mut [u8], _: u32) -> u64 {
+    match looked_up(by, store) {
+        (kind, amount, price) if kind == u64::from(PRICED) => figures(amount, price),
+        _ => u64::MAX,
+    }
+}
+
+/// The look-up's own answer, and amount and price as it leaves them.
+fn looked_up(by: &Store, store: &[u8]) -> (u64, u32, u32) {
     let (bytes, len) = (store.as_ptr(), store.len());
     let (mut amount, mut price) = (u32::MAX, u32::MAX);
     // SAFETY: each pointer is valid for its length, and amount and price overlap nothing.
-    let kind = unsafe {
+    let answer = unsafe {
         (by.look_up)(
             KEY.as_ptr(),
             KEY.len(),
@@ -163,10 +171,7 @@ fn look_up(by: &Store, store: &mut [u8], _: u32) -> u64 {
             &mut price,
         )
     };
-    match kind == u64::from(PRICED) {
-        true => figures(amount, price),
-        false => u64::MAX,
-    }
+    (answer, amount, price)
 }
 
 /// Answers the total itself, or what no total is where it is refused.
@@ -402,10 +407,20 @@ mod tests {
         store
     }
 
+    /// 0 where a look-up is refused, 1 where the sale has no price, 2 where it has one.
+    fn outcome(answer: u64) -> usize {
+        match u8::try_from(answer) {
+            Err(_) => 0,
+            Ok(UNPRICED) => 1,
+            Ok(PRICED) => 2,
+            Ok(other) => panic!("a sale of kind {other}"),
+        }
+    }
+
     #[test]
     fn every_version_answers_alike() {
         let mut random = random(2);
-        let (mut refused, mut priced) = ([0; 32], [0; 2]);
+        let (mut refused, mut outcomes) = ([0; 32], [0; 3]);
         for round in 0..6000 {
             let cells = if round % 100 == 0 {
                 1024
@@ -415,13 +430,13 @@ mod tests {
             let store = damaged(Shuffled(cells), &mut random);
             let answers = all_who().into_iter().map(|(who, by)| {
                 let mut bytes = store.bytes.clone();
-                let found = [read, look_up].map(|make| make(&by, &mut bytes, 0));
+                let found = (read(&by, &mut bytes, 0), looked_up(&by, &bytes));
                 (who, found, bytes)
             });
             let answers: Vec<_> = answers.collect();
-            let [offset, figures] = answers[0].1;
+            let (offset, (answer, ..)) = answers[0].1;
             refused[(offset >> 32) as usize] += 1;
-            priced[usize::from(figures != u64::MAX)] += 1;
+            outcomes[outcome(answer)] += 1;
             for (who, found, bytes) in &answers {
                 assert_eq!(*found, answers[0].1, "{who}, {cells} cells");
                 assert!(*bytes == store.bytes, "{who} changed the store");
@@ -430,6 +445,6 @@ mod tests {
         for number in [0, INDEX, MISFIT] {
             assert!(refused[number as usize] > 100, "{refused:?}");
         }
-        assert!(priced.into_iter().all(|calls| calls > 100), "{priced:?}");
+        assert!(outcomes.iter().all(|&met| met > 100), "{outcomes:?}");
     }
 }

@@ -9,10 +9,10 @@ use crate::{Ground, Key, LookUp, Refusal, Sale, SealedSale, CELL_LEN, NONCE_TAIL
 /// It keeps nothing beside the buffer. Each call but [`format`](Self::format) checks the whole
 /// buffer's form, as [`check`](Self::check) does alone, and refuses what is no store. A refused call changes no byte.
 ///
-/// Each cell but the first holds one sale: its kind and its machine and sale number in the clear, the
-/// rest sealed under MRO with six rounds. From any store that [`total`](Self::total) accepts on, until
-/// the next [`format`](Self::format), with that key and these calls only, the total is the first one
-/// plus the coin amounts taken less those cancelled, of both kinds.
+/// Each cell but the first is free or holds one sale: its kind and its machine and sale number in the
+/// clear, the rest sealed under MRO with six rounds. From any store that [`total`](Self::total)
+/// accepts on, until the next [`format`](Self::format), with that key and these calls only, the total
+/// is the first one plus the coin amounts taken less those cancelled, of both kinds.
 ///
 /// ```
 /// use calmbaize::{Key, Refusal, Sale, Store, CELL_LEN, MEANS_CARD, MEANS_COIN};

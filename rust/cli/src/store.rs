@@ -179,7 +179,7 @@ fn list(options: &Options) -> Result<(), Failure> {
     for (cell, sealed) in store.sales()? {
         text += &format!("cell {cell} {}", numbers(&sealed));
         match key.as_ref().map(|key| sealed.open(key)) {
-            None => {}
+            None => text += &format!(" kind {}", sealed.kind),
             Some(Ok(sale)) => text += &format!(" {}", fields(&sale)),
             Some(Err(mut refusal)) => {
                 text += " won't open";

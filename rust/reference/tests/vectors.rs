@@ -44,7 +44,7 @@ fn p11_a_zero_block_under_opp() {
     }
 }
 
-/// The rows of the table of known answers that have sealed bytes, and no header.
+/// The rows of the table of known answers that have sealed bytes, and neither header nor message.
 #[test]
 fn parcels_as_in_the_table_of_known_answers() {
     let nonce: [u8; 16] = std::array::from_fn(|i| i as u8);
@@ -70,14 +70,28 @@ fn parcels_as_in_the_table_of_known_answers() {
     ] {
         assert_eq!(sealed_in_hex(start, mode, rounds, &nonce, &[], &[]), tag);
     }
+}
+
+/// Those of a sale, with price and day and with zeros in their place.
+#[test]
+fn sales_as_in_that_table() {
     let mut sale = [0; 16];
     (sale[0], sale[4]) = (7, 1);
-    let record = [150, 0, 0, 0, 4, 0, 1, 0, 0, 0, 0, 0, 0];
-    assert_eq!(
-        sealed_in_hex(Start::New, MRO, 6, &sale, &[], &record),
-        "b1692e624070b2b269faf09cae\
-         219f04f37c3bee975f81e934a7c6e9520b62c7d52d9f3eac116a78ec8b52fc83"
-    );
+    for (detail, body) in [
+        (
+            [148, 0, 0, 0, 35, 1],
+            "94d01c0f3f021316e1c87e0b95\
+             b8e1ab40cc289bfe317b17e4045eb836e7c00ffdc2719473d5c682cf2f3d0d71",
+        ),
+        (
+            [0; 6],
+            "b1692e624070b2b269faf09cae\
+             219f04f37c3bee975f81e934a7c6e9520b62c7d52d9f3eac116a78ec8b52fc83",
+        ),
+    ] {
+        let record = [&[150, 0, 0, 0, 4, 0, 1], &detail[..]].concat();
+        assert_eq!(sealed_in_hex(Start::New, MRO, 6, &sale, &[], &record), body);
+    }
 }
 
 /// Those with a header: mode, the lengths of header and message, and the parcel from the byte on

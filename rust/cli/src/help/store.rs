@@ -41,7 +41,8 @@ The fields are printed as words and values, such as
 machine 11 sale 1 amount 150 column 4 means coin price 149 day 320
 A sale of a version before 0.8.0 has a clock instead of price and day, such as
 machine 11 sale 1 amount 150 column 4 means coin clock e80701020304
-Which of the two it has is not sealed: see price.
+Which of the two it has is told by its kind, 2 with a price and 1 with a clock:
+the byte of FILE before the 61 that read prints. It is not sealed: see price.
 ";
 
 pub fn format() -> String {
@@ -135,7 +136,8 @@ pub fn read() -> String {
     format!(
         "\
 Prints the 61 bytes of a sale in hexadecimal: nonce, sealed record and tag. With
-a key the sale must open, and its fields are printed too.
+a key the sale must open, and its fields are printed too. The sale's kind is not
+among the 61 bytes; list shows it, without a key.
 
 usage: calmbaize store read FILE OPTIONS
 
@@ -171,8 +173,10 @@ pub fn list() -> String {
     format!(
         "\
 Prints a line for each sale of a store, the last one taken first: cell, machine
-and sale number. With a key the other fields follow, or \"won't open\"; after
-such a list the command is refused with 9.
+and sale number. Without a key the kind follows, such as
+cell 1 machine 11 sale 1 kind 2
+With a key the other fields follow, or \"won't open\"; after such a list the
+command is refused with 9.
 
 usage: calmbaize store list FILE [OPTIONS]
 

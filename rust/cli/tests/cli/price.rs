@@ -120,6 +120,24 @@ fn a_store_of_version_0_7_0() {
     assert_eq!(till.keyed_text(&["list"]), second);
 }
 
+/// What the help says: the kind is the byte before those that are read.
+#[test]
+fn kinds_are_listed_without_a_key() {
+    let till = of_0_7_0("kinds");
+    till.take("3", "20", "coin");
+    let kinds = [("3", 2), ("2", 1), ("1", 1)];
+    let line = |(sale, kind)| format!("cell {sale} machine 11 sale {sale} kind {kind}\n");
+    let listed: String = kinds.map(line).concat();
+    assert_eq!(till.text(&["list"]), listed);
+    let bytes = fs::read(&till.file).unwrap();
+    let digits: String = bytes.iter().map(|byte| format!("{byte:02x}")).collect();
+    for (sale, kind) in kinds {
+        let part = till.text(&named("read", sale));
+        let cell = format!("{kind:02x}{}", part.trim_end());
+        assert!(digits.contains(&cell), "{cell}");
+    }
+}
+
 /// What the help says: the kind is not sealed. Amount and total do not depend on it.
 #[test]
 fn a_changed_kind_shows_a_clock_as_a_price() {

@@ -115,13 +115,12 @@ fn every_field_is_kept() {
     assert_eq!(till.keyed_text(&take), "1\n");
     let fields = "machine 4294967295 sale 16909060 amount 4294967294 column 65535 \
                   means card price 4294967293 day 65534\n";
-    let sale = ["--machine=4294967295", "--sale=16909060"];
-    let read = [&["read"], &sale[..]].concat();
+    let read = ["read", "--machine=4294967295", "--sale=16909060"];
     let hex = till.text(&read);
     assert_eq!(till.keyed_text(&read), format!("{hex}{fields}"));
     assert_eq!(till.keyed_text(&["list"]), format!("cell 1 {fields}"));
-    let numbers = "cell 1 machine 4294967295 sale 16909060\n";
-    assert_eq!(till.text(&["list"]), numbers);
+    let clear = "cell 1 machine 4294967295 sale 16909060 kind 2\n";
+    assert_eq!(till.text(&["list"]), clear);
 
     let bytes = fs::read(&till.file).unwrap();
     let digits: String = bytes[67..]
@@ -135,12 +134,17 @@ fn every_field_is_kept() {
     assert_eq!(till.text(&read), "");
     assert_eq!(fs::read(&output).unwrap(), bytes[67..]);
     assert_eq!(till.keyed_text(&read), fields);
+}
 
-    // The store is not written over.
+#[test]
+fn the_store_is_not_written_over_by_a_sale() {
+    let till = Till::formatted("written-over", 2);
+    till.take("1", "150", "coin");
+    let bytes = fs::read(&till.file).unwrap();
     let link = till.folder.join("link");
     symlink("till", &link).unwrap();
     for output in [&till.file, link.to_str().unwrap()] {
-        let read = till.args(&[&["read", "-o", output], &sale[..]].concat());
+        let read = till.args(&["read", "-o", output, "--machine=11", "--sale=1"]);
         let error = fails(&read, b"", 2);
         assert!(error.contains("--output is the store itself"), "{error}");
         assert_eq!(fs::read(&till.file).unwrap(), bytes);

@@ -205,26 +205,40 @@ fn help_for_each_command() {
     }
 }
 
-/// What a sale is made of must be said.
+/// What take must be told.
+const NEEDED: [&str; 7] = [
+    "--machine=11",
+    "--sale=1",
+    "--amount=150",
+    "--column=4",
+    "--means=coin",
+    "--price=149",
+    "--key=00",
+];
+
+fn name(option: &str) -> &str {
+    option.split('=').next().unwrap()
+}
+
+/// What take says, with these options in the place of that name's.
+fn take_fails(named: &str, instead: &[&str]) -> String {
+    let others = NEEDED.iter().filter(|field| name(field) != named);
+    let options: Vec<&str> = others.chain(instead).copied().collect();
+    fails(&[&["store", "take", "FILE"], &options[..]].concat(), b"", 2)
+}
+
 #[test]
-fn fields_of_a_sale() {
-    let all = [
-        "--machine=11",
-        "--sale=1",
-        "--amount=150",
-        "--column=4",
-        "--means=coin",
-        "--price=149",
-        "--key=00",
-    ];
-    let take = |options: &[&str]| fails(&[&["store", "take", "FILE"], options].concat(), b"", 2);
-    for at in 0..all.len() {
-        let left: Vec<&str> = [&all[..at], &all[at + 1..]].concat();
-        let name = all[at].split('=').next().unwrap();
-        let error = take(&left);
-        assert!(error.starts_with(&format!("calmbaize: {name} ")), "{error}");
+fn every_field_of_a_sale_is_needed() {
+    for field in NEEDED {
+        let error = take_fails(name(field), &[]);
+        let start = format!("calmbaize: {} ", name(field));
+        assert!(error.starts_with(&start), "{error}");
         assert!(error.contains(" is needed; "), "{error}");
     }
+}
+
+#[test]
+fn fields_that_are_out_of_range() {
     let wrong = [
         (
             "--amount=-1",
@@ -248,10 +262,7 @@ fn fields_of_a_sale() {
         ),
     ];
     for (option, message) in wrong {
-        let name = option.split('=').next().unwrap();
-        let others = all.iter().filter(|other| !other.starts_with(name));
-        let options: Vec<&str> = others.copied().chain([option]).collect();
-        let error = take(&options);
+        let error = take_fails(name(option), &[option]);
         assert!(error.contains(message), "{error}");
     }
 }

@@ -7,8 +7,8 @@ use crate::report::Check;
 use crate::stores::sound::{random_sale, sealed, set_index, HEADS, KIND_AT};
 use reference::store::{Sale, BODY_AT, CELL_LEN};
 
-/// Kinds that are tried: those that there are, and one that there is not.
-const KINDS: usize = 4;
+/// How many kinds are tried, from 0 on: those that there are, and one that there is not.
+const KINDS_TRIED: usize = 4;
 /// Numbers of cells, and of shapes that are sound: as many as ways to put the cells behind cell 0 in
 /// order, to cut the order in two and to give each sale one of two kinds.
 const SIZES: [(usize, usize); 3] = [(2, 1 + 2), (3, 2 * (1 + 2 + 4)), (4, 6 * (1 + 2 + 4 + 8))];
@@ -51,7 +51,7 @@ impl Shapes {
     /// Each index is one of the cells, 0, or the first past the last cell.
     fn count(&self) -> usize {
         let indices = (self.cells + 1).pow(self.cells as u32 + 1);
-        indices * KINDS.pow(self.cells as u32 - 1)
+        indices * KINDS_TRIED.pow(self.cells as u32 - 1)
     }
 
     /// The store of a shape by its number.
@@ -67,7 +67,7 @@ impl Shapes {
         }
         for cell in store.chunks_exact_mut(CELL_LEN).skip(1) {
             set_index(cell, 0, digit(self.cells + 1));
-            cell[KIND_AT] = digit(KINDS) as u8;
+            cell[KIND_AT] = digit(KINDS_TRIED) as u8;
         }
         store
     }
