@@ -1,4 +1,7 @@
 // What a public call answers: a value, or the ground of refusal and its place; and what checks find.
+
+#![tactic(auto)]
+
 ghost use Rattle.std.specs.Prelude.{◌≡◌, ◌<◌, ◌^◌};
 ghost use Rattle.answers.specs.Answers.{ground_number, number_of, value_of, code_of, room as room_of};
 ghost use Rattle.answers.specs.declared.Check.TheVariants.{Clear};

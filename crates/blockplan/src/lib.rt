@@ -1,4 +1,7 @@
 // What both modes do with bytes: whole blocks summed under stepping masks, and a leftover.
+
+#![tactic(auto)]
+
 pub mod absorb;
 pub mod leftover;
 

@@ -1,5 +1,8 @@
 // What C and Rust call. Each call's answer is one number: the refusal's number times 2^32, plus the
 // place; on success the call's value: the bytes written, a reason, a cell, an amount, an offset or a kind.
+
+#![tactic(auto)]
+
 ghost use Rattle.std.specs.Prelude.{◌≡◌};
 ghost use Rattle.answers.specs.Answers.{code_of, coded, totalled};
 ghost use Rattle.sealing.specs.Sealing.{seal_call, open_call, open_old_call};

@@ -1,4 +1,7 @@
 // The two chains of a store: their form, and a sale in them by its numbers.
+
+#![tactic(auto)]
+
 use cells::Stop;
 
 pub mod find;

@@ -1,5 +1,8 @@
 // The checks of seal, open, convert and diagnose, and of sealing and opening from a run, over settings
 // and lengths alone.
+
+#![tactic(auto)]
+
 ghost use Rattle.std.specs.Prelude.{◌≡◌, ◌<◌, get_or};
 ghost use Rattle.answers.specs.declared.Check.TheVariants.{Clear};
 ghost use Rattle.checks.specs.Checks.{is_mode, round_counts, is_rounds, settings, seal_inputs, open_inputs, seal_checks, open_checks, convert_checks, run_length, seal_run_checks, open_run_checks};

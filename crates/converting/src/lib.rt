@@ -1,5 +1,8 @@
 // Convert: the checks in document 01's order, then the parcel judged under the old start and, where it
 // does not open there, under the new one. Nothing is written before that.
+
+#![tactic(auto)]
+
 ghost use Rattle.std.specs.Prelude.{◌≡◌};
 ghost use Rattle.converting.specs.Converting.{convert_call};
 

@@ -1,5 +1,8 @@
 // Diagnose: open's checks up to 6, then the parcel judged under the setting asked and, where it does not
 // open there, under the others in their order. Nothing is written.
+
+#![tactic(auto)]
+
 ghost use Rattle.std.specs.Prelude.{◌≡◌, false, ◌≢◌, ◌≤◌, ◌<◌, length};
 ghost use Rattle.diagnosing.specs.Diagnosing.{sixteen, nth, unlike, differs, first_of, reason_for, start_under, opens_under, diagnose_call, bit, differ_number, reason_told};
 ghost use Rattle.diagnosing.specs.Trying.{is_same, tries};

@@ -1,2 +1,5 @@
 // The three steps of a mask.
+
+#![tactic(auto)]
+
 pub mod steps;

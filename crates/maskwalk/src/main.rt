@@ -1,5 +1,8 @@
 // Reads a start of 128 bytes and letters from standard input, and prints the block that they lead
 // to. The library maskwalk_text decides the whole text; this program only moves bytes.
+
+#![tactic(auto)]
+
 use libc::{STDERR_FILENO, STDIN_FILENO, STDOUT_FILENO};
 use maskwalk_text::{HELD, Scan, TEXT, feed, finish, first, is_open};
 

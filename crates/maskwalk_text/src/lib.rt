@@ -1,4 +1,7 @@
 // What the program maskwalk prints for an input of any size, which comes in parts.
+
+#![tactic(auto)]
+
 mod input;
 mod lines;
 

@@ -1,3 +1,6 @@
 // The masked Even-Mansour cipher: the start, and P under a mask.
+
+#![tactic(auto)]
+
 pub mod cipher;
 pub mod start;

@@ -1,4 +1,7 @@
 // A mode by its number, 1 for OPP and any other for MRO, over a start block.
+
+#![tactic(auto)]
+
 ghost use Rattle.std.specs.Prelude.{◌≡◌, ◌++◌, ◌+◌, ◌≤◌, length, drop};
 ghost use Rattle.blockplan.specs.Parcel.{parcel_of, message_of, genuine, opened};
 ghost use Rattle.modes.specs.Modes.{mode_of};

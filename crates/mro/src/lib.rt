@@ -1,5 +1,8 @@
 // MRO over a start block and a round count: the tag of header and message, and the message under the
 // stream that the tag gives.
+
+#![tactic(auto)]
+
 ghost use Rattle.std.specs.Prelude.{◌≡◌, ◌++◌, ◌+◌, ◌≤◌, length, drop};
 ghost use Rattle.blockplan.specs.Parcel.{parcel_of, opened};
 ghost use Rattle.mro.specs.Mro.{mro_mode};

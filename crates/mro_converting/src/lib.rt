@@ -1,4 +1,7 @@
 // MRO's parcels judged under a start, and sealed again from another: no plain byte goes to an output.
+
+#![tactic(auto)]
+
 ghost use Rattle.std.specs.Prelude.{◌≡◌, ◌++◌, ◌≤◌, length, drop};
 ghost use Rattle.blockplan.specs.Parcel.{parcel_of, message_of, genuine};
 ghost use Rattle.mro.specs.Mro.{mro_mode};

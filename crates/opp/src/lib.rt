@@ -1,5 +1,8 @@
 // OPP over a start block and a round count: one pass over the message, whose masks step on from
 // block to block.
+
+#![tactic(auto)]
+
 ghost use Rattle.std.specs.Prelude.{◌≡◌, ◌++◌, ◌+◌, ◌≤◌, length, drop};
 ghost use Rattle.blockplan.specs.Parcel.{parcel_of, opened};
 ghost use Rattle.opp.specs.Opp.{opp_mode};

@@ -1,5 +1,8 @@
 // The pass over a message's whole blocks, masks stepping on from block to block: sealing and opening
 // differ in the way a block goes, and in which of its two forms is plain.
+
+#![tactic(auto)]
+
 ghost use Rattle.std.specs.Prelude.{◌≤◌, length};
 ghost use Rattle.blockplan.specs.Plan.{whole};
 ghost use Rattle.blockplan.specs.Pass.{stepping, Passed};

@@ -1,4 +1,7 @@
 // OPP under masks that all come out of one run of words, whose first sixteen are the start.
+
+#![tactic(auto)]
+
 ghost use Rattle.std.specs.Prelude.{◌≡◌, ◌++◌, ◌+◌, ◌-◌, ◌/◌, ◌≤◌, length, take, drop};
 ghost use Rattle.masks.specs.Run.{IsRun};
 ghost use Rattle.blockplan.specs.Plan.{whole};

@@ -1,5 +1,8 @@
 // The pass over a message's whole blocks, whose masks stand one word apart in a run: four in a turn, then
 // up to three one by one. Sealing and opening have a loop of fours each.
+
+#![tactic(auto)]
+
 ghost use Rattle.std.specs.Prelude.{◌≤◌, ◌+◌, ◌*◌, ◌/◌, length};
 ghost use Rattle.masks.specs.Run.{mask_from};
 ghost use Rattle.blockplan.specs.Plan.{whole};

@@ -1,4 +1,7 @@
 // Four blocks at a time: read and written one behind the other, summed, and enciphered side by side.
+
+#![tactic(auto)]
+
 pub mod bytes;
 pub mod masked;
 pub mod one_mask;

@@ -1,5 +1,8 @@
 // Seal and open from a run of words in a lent buffer: the checks in order, the run grown
 // from the start, and then a mode.
+
+#![tactic(auto)]
+
 ghost use Rattle.std.specs.Prelude.{◌≡◌};
 ghost use Rattle.run_sealing.specs.RunSealing.{seal_run_call, open_run_call};
 

@@ -1,5 +1,8 @@
 // The sum over blocks, each enciphered under its mask out of a run: four in a turn, then up to three one by
 // one, and a padded leftover.
+
+#![tactic(auto)]
+
 ghost use Rattle.std.specs.Prelude.{◌≡◌, false, ◌++◌, ◌∷◌, [], ◌≤◌, ◌<◌, ◌+◌, length};
 ghost use Rattle.words.specs.Sequence.{fold};
 ghost use Rattle.words.specs.Block.{block_of, xor_block};

@@ -1,3 +1,6 @@
 // The run of words that all masks of a call are taken from.
+
+#![tactic(auto)]
+
 pub mod growing;
 pub mod windows;

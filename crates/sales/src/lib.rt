@@ -1,5 +1,8 @@
 // A sale as the store holds it: written sealed, opened, and its part in the cash total. Key, amount,
 // means, record and tag decide no branch and no index.
+
+#![tactic(auto)]
+
 ghost use Rattle.std.specs.Prelude.{◌≡◌, cond, eqb, length};
 ghost use Rattle.sales.specs.Sale.{body_for, IsOpened};
 

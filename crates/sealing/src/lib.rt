@@ -1,4 +1,7 @@
 // Seal, open and open_old: the checks in document 01's order, then a mode over a start.
+
+#![tactic(auto)]
+
 ghost use Rattle.std.specs.Prelude.{◌≡◌};
 ghost use Rattle.sealing.specs.Sealing.{seal_call, open_call, open_old_call, open_from};
 ghost use Rattle.mem.specs.Mem.{start_for};

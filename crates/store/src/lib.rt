@@ -1,4 +1,7 @@
 // The store's calls.
+
+#![tactic(auto)]
+
 ghost use Rattle.std.specs.Prelude.{◌≡◌};
 ghost use Rattle.answers.specs.Answers.{judged};
 ghost use Rattle.answers.specs.declared.Answer.TheVariants.{Done};

@@ -1,4 +1,7 @@
 // The tag: written, compared, and what follows from the comparison.
+
+#![tactic(auto)]
+
 ghost use Rattle.std.specs.Prelude.{◌≡◌, cond, ◌++◌, ◌+◌, ◌≤◌, eqb, length, drop};
 ghost use Rattle.words.specs.Sequence.{zeros};
 ghost use Rattle.words.specs.Block.{block_of};

@@ -1,4 +1,7 @@
 // Walk and jump: a mask moved on and back by alpha, beta and gamma steps, over lent bytes.
+
+#![tactic(auto)]
+
 mod counts;
 pub mod steps;
 
