@@ -29,7 +29,7 @@ grounds =
 -- the first of them with that number
 abbrev ground_of : List Ground → ℕ → Ground
 ground_of [] n = ModeNumber
-ground_of (ground ∷ others) n = cond (eqb (ground_number ground) n) ground (ground_of others n)
+ground_of (why ∷ others) n = cond (eqb (ground_number why) n) why (ground_of others n)
 
 -- the answer with that number, and that value or place
 abbrev answer_of : ℕ → ℕ → Answer

@@ -17,7 +17,7 @@ use Rattle.answers.specs.declared.Answer.TheVariants.{Done, Refused}
 -- whether checks are clear
 abbrev pub is_clear : Check → Bool
 is_clear Clear = true
-is_clear (Fails ground place) = false
+is_clear (Fails why place) = false
 
 pub line_at-clear : (t : Bool) (g : Ground) (at : ℕ) (next : Check) → line_at t g at next ≡ Clear → (t ≡ false) × (next ≡ Clear)
 unfolding line_at
@@ -39,7 +39,7 @@ room-clear needed lent next e =
 -- the next checks decide where the first ones are clear
 unfoldable pub after : Check → Check → Check
 after Clear next = next
-after (Fails ground place) next = Fails ground place
+after (Fails why place) next = Fails why place
 
 pub line_after : (t : Bool) (g : Ground) (c next : Check) → line t g (after c next) ≡ after (line t g c) next
 unfolding line line_at after
@@ -90,12 +90,12 @@ checked-unchanged (Fails k p) before r g at h e = refl
 -- whether an answer is no refusal
 abbrev pub is_done : Answer → Bool
 is_done (Done value) = true
-is_done (Refused ground place) = false
+is_done (Refused why place) = false
 
 -- a refusal as what the checks found
 abbrev as_check : Answer → Check
 as_check (Done value) = Clear
-as_check (Refused ground place) = Fails ground place
+as_check (Refused why place) = Fails why place
 
 pub judged-done : (c : Check) (v w : ℕ) → judged c (Done v) ≡ Done w → (c ≡ Clear) × (v ≡ w)
 unfolding judged refused_or
@@ -112,7 +112,7 @@ judged-refused (Fails h k) v g at e = ap as_check e
 -- the place that checks find
 abbrev pub place_of : Check → ℕ
 place_of Clear = 0
-place_of (Fails ground place) = place
+place_of (Fails why place) = place
 
 pub line_at-lt : (n : ℕ) (t : Bool) (g : Ground) (at : ℕ) (next : Check) → (t ≡ true → at < n) → (t ≡ false → place_of next < n) → place_of (line_at t g at next) < n
 unfolding line_at

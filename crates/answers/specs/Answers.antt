@@ -34,12 +34,12 @@ ground_number StoreKind = 20
 -- a refusal returns its number; 0 is success
 abbrev pub number_of : Answer → ℕ
 number_of (Done value) = 0
-number_of (Refused ground place) = ground_number ground
+number_of (Refused why place) = ground_number why
 
 -- success returns a value: the bytes written, or what the call says; a refusal a place
 abbrev pub value_of : Answer → ℕ
 value_of (Done value) = value
-value_of (Refused ground place) = place
+value_of (Refused why place) = place
 
 -- an answer as one number, for C: the refusal's number times 2^32, plus the place; on success the value
 unfoldable pub code_of : Answer → ℕ
@@ -52,12 +52,12 @@ coded r = (code_of r.0, r.1)
 -- total's answer for C: 0 on success, since the total itself may pass 2^32
 abbrev pub shown : Answer → Answer
 shown (Done total) = Done 0
-shown (Refused ground place) = Refused ground place
+shown (Refused why place) = Refused why place
 
 -- what C's variable for the total holds afterwards: the total; where refused what it held before
 abbrev pub total_in : Answer → ℕ → ℕ
 total_in (Done total) before = total
-total_in (Refused ground place) before = before
+total_in (Refused why place) before = before
 
 -- total's one number, and its variable
 unfoldable pub totalled : Answer → ℕ → ℕ × ℕ
@@ -67,12 +67,12 @@ totalled a before = (code_of (shown a), total_in a before)
 
 -- a line of the table: where its ground holds, that is what the checks find, at that place; else the next line decides
 unfoldable pub line_at : Bool → Ground → ℕ → Check → Check
-line_at true ground place next = Fails ground place
-line_at false ground place next = next
+line_at true why place next = Fails why place
+line_at false why place next = next
 
 -- a line whose place is 0
 unfoldable pub line : Bool → Ground → Check → Check
-line test ground next = line_at test ground 0 next
+line test why next = line_at test why 0 next
 
 -- the line of many calls: the output shorter than success writes (of the run's calls, likewise the words)
 unfoldable pub room : ℕ → ℕ → Check → Check
@@ -80,12 +80,12 @@ room needed lent next = line (ltb lent needed) OutputLength next
 
 -- a call: what its checks find it answers, and changes nothing of what it may write; where they are clear it answers and writes as given
 unfoldable pub checked : {A : Type 0} → Check → A → Answer × A → Answer × A
-checked (Fails ground place) before result = (Refused ground place, before)
+checked (Fails why place) before result = (Refused why place, before)
 checked Clear before result = result
 
 -- a result of any kind after checks: what they find, refused in this way; where they are clear the result given
 unfoldable pub refused_or : {A : Type 0} → (Ground → ℕ → A) → Check → A → A
-refused_or refuse (Fails ground place) result = refuse ground place
+refused_or refuse (Fails why place) result = refuse why place
 refused_or refuse Clear result = result
 
 -- a call that writes nothing: what its checks find, or the answer given

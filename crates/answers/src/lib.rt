@@ -7,7 +7,7 @@ ghost use Rattle.answers.specs.Answers.{ground_number, number_of, value_of, code
 ghost use Rattle.answers.specs.declared.Check.TheVariants.{Clear};
 
 // Why a call is refused.
-#[derive(Drop)]
+#[derive(Clone, Copy)]
 pub enum Ground {
     // The mode is not 1 or 2.
     ModeNumber,
@@ -50,14 +50,14 @@ pub enum Ground {
 }
 
 // What a call's checks find: nothing, or the first ground that holds and its place.
-#[derive(Drop)]
+#[derive(Clone, Copy)]
 pub enum Check {
     Clear,
     Fails(Ground, u64),
 }
 
 // Success and its value, or the ground of refusal and its place.
-#[derive(Drop)]
+#[derive(Clone, Copy)]
 pub enum Answer {
     Done(u64),
     Refused(Ground, u64),

@@ -6,7 +6,7 @@ pub mod absorb;
 pub mod leftover;
 
 // A sum of blocks, and the mask of the next block.
-#[derive(Drop)]
+#[derive(Clone, Copy)]
 pub struct Summed {
     pub sum: [u64; 16],
     pub mask: [u64; 16],

@@ -15,7 +15,7 @@ pub record FirstFault : Type 0 where
   pub index-cell : (s : List ℕ) (c : ℕ) → fault_of s ≡ Index c → c < cells s
   pub kind-cell : (s : List ℕ) (c : ℕ) → fault_of s ≡ Kind c → (0 < c) × (c < cells s)
   -- and every place below 2^32, so that C reads it off the one number
-  pub place-low : (s : List ℕ) (ground : Ground) (place : ℕ) → fault_check (fault_of s) Clear ≡ Fails ground place → place < 2 ^ 32
+  pub place-low : (s : List ℕ) (why : Ground) (place : ℕ) → fault_check (fault_of s) Clear ≡ Fails why place → place < 2 ^ 32
   -- more steps than there are cells lead no walk further
   pub sales-steps : (s : List ℕ) (more : ℕ) → walk_of s (cells s + more) [] 0 (first_sale s) ≡ sales_walk s
   pub free-steps : (s : List ℕ) (more : ℕ) → walk_of s (cells s + more) (sales_walk s).1 0 (first_free s) ≡ free_walk s

@@ -16,7 +16,7 @@ const SALES: bool = true;
 const FREE: bool = false;
 
 // What the walk of a chain with marks leaves.
-#[derive(Drop)]
+#[derive(Clone, Copy)]
 pub struct MarkedWalk {
     pub stop: Stop,
     // The lowest cell reached so far, in either chain, whose kind does not fit; the number of cells where each does.
@@ -26,7 +26,7 @@ pub struct MarkedWalk {
 }
 
 // How far the walk of both chains side by side came.
-#[derive(Drop)]
+#[derive(Clone, Copy)]
 pub struct BothWalk {
     // No fault was seen.
     pub going: bool,
@@ -38,7 +38,7 @@ pub struct BothWalk {
 }
 
 // How the walk of one chain went.
-#[derive(Drop)]
+#[derive(Clone, Copy)]
 pub struct OneWalk {
     // It came to the chain's end, and no fault was seen.
     pub ended: bool,
@@ -47,7 +47,7 @@ pub struct OneWalk {
 }
 
 // Where a sale stands.
-#[derive(Drop)]
+#[derive(Clone, Copy)]
 pub enum Found {
     Nowhere,
     // The cell before it in the chain, 0 for the first; and its own.

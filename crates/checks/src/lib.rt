@@ -43,7 +43,7 @@ pub fn round_count(k: usize) -> u32
 }
 
 // The lengths of a call's inputs; the last is the message or the parcel.
-#[derive(Drop)]
+#[derive(Clone, Copy)]
 pub struct Lengths {
     pub key: usize,
     pub nonce: usize,

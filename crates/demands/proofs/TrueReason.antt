@@ -192,25 +192,25 @@ abbrev kind_of : Diagnosis → ℕ
 kind_of AsAsked = 0
 kind_of (Other n d) = 1
 kind_of NoneOfSixteen = 2
-kind_of (Refused ground place) = 3
+kind_of (Refused why place) = 3
 
 abbrev number_of : Diagnosis → ℕ
 number_of AsAsked = 0
 number_of (Other n d) = n
 number_of NoneOfSixteen = 0
-number_of (Refused ground place) = place
+number_of (Refused why place) = place
 
 abbrev ground_in : Diagnosis → Check
 ground_in AsAsked = Clear
 ground_in (Other n d) = Clear
 ground_in NoneOfSixteen = Clear
-ground_in (Refused ground place) = Fails ground place
+ground_in (Refused why place) = Fails why place
 
 abbrev differs_of : Differs → Diagnosis → Differs
 differs_of none AsAsked = none
 differs_of none (Other n d) = d
 differs_of none NoneOfSixteen = none
-differs_of none (Refused ground place) = none
+differs_of none (Refused why place) = none
 
 -- by the two tests that decide it
 abbrev decided : ℕ → Differs → Bool → Bool → Diagnosis
@@ -257,22 +257,22 @@ module _ (old : Bool) (mode rounds : ℕ) (key nonce header parcel : List ℕ) w
   abbrev differ : Differs
   differ = differs asked (nth sixteen first)
 
-  refused : (ground : Ground) (place : ℕ) → open_inputs mode rounds (length key) (length nonce) (length header) (length parcel) Clear ≡ Fails ground place
-      → Says old mode rounds key nonce header parcel (Refused ground place)
+  refused : (why : Ground) (place : ℕ) → open_inputs mode rounds (length key) (length nonce) (length header) (length parcel) Clear ≡ Fails why place
+      → Says old mode rounds key nonce header parcel (Refused why place)
   unfolding diagnose_call refused_or
-  refused ground place e = rw e
+  refused why place e = rw e
 
   -- what is refused is what the checks found
-  found-is : (c : Check) (ground : Ground) (place : ℕ) → refused_or Refused c (reason_for test asked) ≡ Refused ground place → c ≡ Fails ground place
+  found-is : (c : Check) (why : Ground) (place : ℕ) → refused_or Refused c (reason_for test asked) ≡ Refused why place → c ≡ Fails why place
   unfolding refused_or reason_for reason_at
-  found-is Clear ground place e = sym (not-refused first differ (test asked) (ltb first 16)) ∙ ap ground_in e
-  found-is (Fails g at) ground place e = ap ground_in e
+  found-is Clear why place e = sym (not-refused first differ (test asked) (ltb first 16)) ∙ ap ground_in e
+  found-is (Fails g at) why place e = ap ground_in e
 
-  refused-by : (start : ℕ → List ℕ → List ℕ → List ℕ) (ground : Ground) (place : ℕ) → Says old mode rounds key nonce header parcel (Refused ground place)
-      → (out : List ℕ) → open_from start mode rounds key nonce header parcel out ≡ (AnswerRefused ground place, out)
+  refused-by : (start : ℕ → List ℕ → List ℕ → List ℕ) (why : Ground) (place : ℕ) → Says old mode rounds key nonce header parcel (Refused why place)
+      → (out : List ℕ) → open_from start mode rounds key nonce header parcel out ≡ (AnswerRefused why place, out)
   unfolding diagnose_call open_from open_checks checked after
-  refused-by start ground place e out =
-      let c = found-is _ ground place e in
+  refused-by start why place e out =
+      let c = found-is _ why place e in
       rw (open_after mode rounds (length key) (length nonce) (length header) (length parcel) (room (length parcel - 32) (length out) Clear), c)
 
   module _ (𝓟 : Openable mode rounds key nonce header parcel) where
@@ -346,12 +346,12 @@ module _ (old : Bool) (mode rounds : ℕ) (key nonce header parcel : List ℕ) w
       cases = rw answers (no_other first differ (test asked) (ltb first 16));
     }
 
-refused-by-open : (old : Bool) (mode rounds : ℕ) (key nonce header parcel : List ℕ) (ground : Ground) (place : ℕ)
-    → Says old mode rounds key nonce header parcel (Refused ground place)
-    → (out : List ℕ) → opening_under old mode rounds key nonce header parcel out ≡ (AnswerRefused ground place, out)
+refused-by-open : (old : Bool) (mode rounds : ℕ) (key nonce header parcel : List ℕ) (why : Ground) (place : ℕ)
+    → Says old mode rounds key nonce header parcel (Refused why place)
+    → (out : List ℕ) → opening_under old mode rounds key nonce header parcel out ≡ (AnswerRefused why place, out)
 unfolding open_call open_old_call
-refused-by-open true mode rounds key nonce header parcel ground place e out = refused-by true mode rounds key nonce header parcel old_start_of ground place e out
-refused-by-open false mode rounds key nonce header parcel ground place e out = refused-by false mode rounds key nonce header parcel start_of ground place e out
+refused-by-open true mode rounds key nonce header parcel why place e out = refused-by true mode rounds key nonce header parcel old_start_of why place e out
+refused-by-open false mode rounds key nonce header parcel why place e out = refused-by false mode rounds key nonce header parcel start_of why place e out
 
 pub true-reason : TrueReason
 true-reason = record {

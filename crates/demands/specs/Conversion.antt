@@ -31,7 +31,7 @@ module _ (mode rounds : ℕ) (key nonce header : List ℕ) where
 
   -- convert refuses that parcel on that ground and changes no byte of an output that has room for a parcel
   abbrev pub RefusesUnchanged : Ground → List ℕ → Type 0
-  RefusesUnchanged ground parcel = (out : List ℕ) → length parcel ≤ length out → convert_call mode rounds key nonce header parcel out ≡ (Refused ground 0, out)
+  RefusesUnchanged why parcel = (out : List ℕ) → length parcel ≤ length out → convert_call mode rounds key nonce header parcel out ≡ (Refused why 0, out)
 
   -- what convert does with a parcel, by how it opens
   pub record OneOfThree (parcel : List ℕ) : Type 0 where
@@ -54,5 +54,5 @@ pub record Conversion : Type 0 where
   pub one_of_three : (mode rounds : ℕ) (key nonce header parcel : List ℕ) → Openable mode rounds key nonce header parcel
       → OneOfThree mode rounds key nonce header parcel
   -- a refusal, on whichever ground and for whatever arguments, changes no output
-  pub unchanged : (mode rounds : ℕ) (key nonce header parcel out : List ℕ) (ground : Ground) (place : ℕ)
-      → (convert_call mode rounds key nonce header parcel out).0 ≡ Refused ground place → (convert_call mode rounds key nonce header parcel out).1 ≡ out
+  pub unchanged : (mode rounds : ℕ) (key nonce header parcel out : List ℕ) (why : Ground) (place : ℕ)
+      → (convert_call mode rounds key nonce header parcel out).0 ≡ Refused why place → (convert_call mode rounds key nonce header parcel out).1 ≡ out

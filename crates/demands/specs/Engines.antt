@@ -74,8 +74,8 @@ module _ (mode rounds : ℕ) (key nonce header input out words : List ℕ) where
     pub seals : seal_words ≤ length words → without_words sealed_from_run ≡ seal_call mode rounds key nonce header input out
     pub opens : open_words ≤ length words → without_words opened_from_run ≡ open_call mode rounds key nonce header input out
     -- what seal and open refuse by their checks is refused as they do, however many words there are, and nothing changes
-    pub seals-refused : (ground : Ground) (place : ℕ) → seal_finds ≡ Fails ground place → sealed_from_run ≡ (Refused ground place, (out, words))
-    pub opens-refused : (ground : Ground) (place : ℕ) → open_finds ≡ Fails ground place → opened_from_run ≡ (Refused ground place, (out, words))
+    pub seals-refused : (why : Ground) (place : ℕ) → seal_finds ≡ Fails why place → sealed_from_run ≡ (Refused why place, (out, words))
+    pub opens-refused : (why : Ground) (place : ℕ) → open_finds ≡ Fails why place → opened_from_run ≡ (Refused why place, (out, words))
     -- words too few: 7, where the checks of seal or open find nothing, and nothing changes; so it comes before open's 9
     pub seals-short : seal_finds ≡ Clear → length words < seal_words → sealed_from_run ≡ (Refused OutputLength 0, (out, words))
     pub opens-short : open_finds ≡ Clear → length words < open_words → opened_from_run ≡ (Refused OutputLength 0, (out, words))
@@ -87,8 +87,8 @@ module _ (mode rounds : ℕ) (key nonce header input out words : List ℕ) where
     pub opens-words : Bytes key → Bytes nonce → (n : ℕ) → opened_from_run.0 ≡ Done n → HoldsRun open_words opened_from_run
     pub nine_words : Bytes key → Bytes nonce → (place : ℕ) → opened_from_run.0 ≡ Refused TagDiffers place → HoldsRun open_words opened_from_run
     -- any other refusal changes nothing
-    pub seals-unchanged : (ground : Ground) (place : ℕ) → sealed_from_run.0 ≡ Refused ground place → sealed_from_run.1 ≡ (out, words)
-    pub opens-unchanged : (ground : Ground) (place : ℕ) → (ground ≡ TagDiffers → ⊥) → opened_from_run.0 ≡ Refused ground place → opened_from_run.1 ≡ (out, words)
+    pub seals-unchanged : (why : Ground) (place : ℕ) → sealed_from_run.0 ≡ Refused why place → sealed_from_run.1 ≡ (out, words)
+    pub opens-unchanged : (why : Ground) (place : ℕ) → (why ≡ TagDiffers → ⊥) → opened_from_run.0 ≡ Refused why place → opened_from_run.1 ≡ (out, words)
 
 -- for every argument
 abbrev pub SameEngine : Type 0

@@ -69,12 +69,12 @@ pub record TrueReason : Type 0 where
   pub listed-pass : (n : ℕ) → n < 16 → (is_mode (nth sixteen n).mode ≡ true) × (is_rounds (nth sixteen n).rounds ≡ true)
   pub listed-once : (m n : ℕ) → m < 16 → n < 16 → nth sixteen m ≡ nth sixteen n → m ≡ n
   -- "Checks as open's up to 6": what they find is refused; and what is refused, the call that opens under the start asked refuses on the same ground, at the same place, whatever its output
-  pub refused : (old : Bool) (mode rounds : ℕ) (key nonce header parcel : List ℕ) (ground : Ground) (place : ℕ)
-      → open_inputs mode rounds (length key) (length nonce) (length header) (length parcel) Clear ≡ Fails ground place
-      → diagnose_call old mode rounds key nonce header parcel ≡ Refused ground place
-  pub refused-by-open : (old : Bool) (mode rounds : ℕ) (key nonce header parcel : List ℕ) (ground : Ground) (place : ℕ)
-      → diagnose_call old mode rounds key nonce header parcel ≡ Refused ground place
-      → (out : List ℕ) → opening_under old mode rounds key nonce header parcel out ≡ (AnswerRefused ground place, out)
+  pub refused : (old : Bool) (mode rounds : ℕ) (key nonce header parcel : List ℕ) (why : Ground) (place : ℕ)
+      → open_inputs mode rounds (length key) (length nonce) (length header) (length parcel) Clear ≡ Fails why place
+      → diagnose_call old mode rounds key nonce header parcel ≡ Refused why place
+  pub refused-by-open : (old : Bool) (mode rounds : ℕ) (key nonce header parcel : List ℕ) (why : Ground) (place : ℕ)
+      → diagnose_call old mode rounds key nonce header parcel ≡ Refused why place
+      → (out : List ℕ) → opening_under old mode rounds key nonce header parcel out ≡ (AnswerRefused why place, out)
   -- of every parcel that open refuses on no ground but 9, given room, the reason
   pub reasons : (old : Bool) (mode rounds : ℕ) (key nonce header parcel : List ℕ) → Openable mode rounds key nonce header parcel
       → Reasons old mode rounds key nonce header parcel

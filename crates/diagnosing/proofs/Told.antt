@@ -38,7 +38,7 @@ abbrev Sayable : Diagnosis → Type 0
 Sayable AsAsked = Unit
 Sayable (Other n d) = n < 16
 Sayable NoneOfSixteen = Unit
-Sayable (Refused ground place) = place < 2 ^ 32
+Sayable (Refused why place) = place < 2 ^ 32
 
 at-sayable : (asked : Setting) (n : ℕ) → Sayable (reason_at asked n)
 unfolding reason_at
@@ -94,7 +94,7 @@ differs-back d = each d.start d.mode d.rounds
 
 abbrev diagnosis_of : Answer → Diagnosis
 diagnosis_of (Done v) = cond (eqb v 0) AsAsked (cond (eqb v 255) NoneOfSixteen (Other ((v - 1) % 32) (differs_of ((v - 1) / 32))))
-diagnosis_of (AnswerRefused ground place) = Refused ground place
+diagnosis_of (AnswerRefused why place) = Refused why place
 
 other-back : (n k v : ℕ) → n < 16 → k ≤ 7 → v ≡ 1 + n + 32 * k → diagnosis_of (Done v) ≡ Other n (differs_of k)
 other-back n k v h l e =

@@ -101,4 +101,4 @@ unfoldable pub reason_told : Diagnosis → Answer
 reason_told AsAsked = Done 0
 reason_told (Other n d) = Done (1 + n + 32 * differ_number d)
 reason_told NoneOfSixteen = Done 255
-reason_told (Refused ground place) = AnswerRefused ground place
+reason_told (Refused why place) = AnswerRefused why place

@@ -12,7 +12,7 @@ use checks::{Lengths, check_parcel, round_count};
 use mem::start::start;
 
 // A start, the old one or the new, a mode and a round count.
-#[derive(Drop)]
+#[derive(Clone, Copy)]
 pub struct Setting {
     pub old: bool,
     pub mode: u32,
@@ -20,7 +20,7 @@ pub struct Setting {
 }
 
 // What differs from the setting asked.
-#[derive(Drop)]
+#[derive(Clone, Copy)]
 pub struct Differs {
     pub start: bool,
     pub mode: bool,
@@ -28,7 +28,7 @@ pub struct Differs {
 }
 
 // Why a parcel won't open as asked.
-#[derive(Drop)]
+#[derive(Clone, Copy)]
 pub enum Diagnosis {
     // It opens as asked.
     AsAsked,

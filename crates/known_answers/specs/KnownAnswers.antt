@@ -127,12 +127,12 @@ sealed_old mode rounds message = parcel_of (mode_of mode rounds (old_start_of ro
 -- what checks find: the number and the place, or 0 and 0
 abbrev pub finds : Check → List ℕ
 finds Clear = 0 ∷ 0 ∷ []
-finds (Fails ground place) = ground_number ground ∷ place ∷ []
+finds (Fails why place) = ground_number why ∷ place ∷ []
 
 -- what a call answers, the number, 0 where nothing is refused, and the value or the place; then what it leaves in the output
 unfoldable pub answered : Answer × List ℕ → List ℕ
 answered (Done value, out) = 0 ∷ value ∷ out
-answered (Refused ground place, out) = ground_number ground ∷ place ∷ out
+answered (Refused why place, out) = ground_number why ∷ place ∷ out
 
 -- opening a parcel of sample_header of 5 bytes from a run, into an output of four bytes
 unfoldable pub opened_by_run : ℕ → List ℕ → List ℕ

@@ -240,7 +240,7 @@ module _ (key : List ℕ) where
 
     -- the part that read hands out once the form is right
     part-holds : (t : Bool) → present machine sale s ≡ t
-        → held_in key (kind_of s (cell_named machine sale s)) (refused_or (λ ground place. []) (line (not t) SaleNumbers Clear) (body_of s (cell_named machine sale s))) ≡ cond t (sale_at key s (cell_named machine sale s) ∷ []) []
+        → held_in key (kind_of s (cell_named machine sale s)) (refused_or (λ why place. []) (line (not t) SaleNumbers Clear) (body_of s (cell_named machine sale s))) ≡ cond t (sale_at key s (cell_named machine sale s) ∷ []) []
     unfolding line line_at refused_or held_in sale_at
     part-holds true e =
         let c = cell_named machine sale s in

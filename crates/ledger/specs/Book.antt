@@ -89,7 +89,7 @@ book_cancel machine sale b = record {
 
 -- the ledger after one call that was answered so: a refused call counts for nothing, format begins at 0 with no sale; total, read and look-up leave it
 unfoldable pub entered : Call → Answer → Book → Book
-entered call (Refused ground place) b = b
+entered call (Refused why place) b = b
 entered format (Done value) b = new_book 0 []
 entered (take x) (Done value) b = book_take x b
 entered (cancel machine sale) (Done value) b = book_cancel machine sale b

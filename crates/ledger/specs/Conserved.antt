@@ -80,4 +80,4 @@ pub record Conserved : Type 0 where
       → total_call key s ≡ Done first → let b = kept key calls s (new_book first (sales_in key s)) in
       (total_call key (store_after key calls s) ≡ Done ((first + coins b.taken) - coins b.cancelled)) × (coins b.cancelled ≤ first + coins b.taken)
   -- a refused call "changes nothing": for every key and store and on every ground, no byte of the store
-  pub refused-unchanged : (key s : List ℕ) (call : Call) (ground : Ground) (place : ℕ) → (called key call s).0 ≡ Refused ground place → (called key call s).1 ≡ s
+  pub refused-unchanged : (key s : List ℕ) (call : Call) (why : Ground) (place : ℕ) → (called key call s).0 ≡ Refused why place → (called key call s).1 ≡ s

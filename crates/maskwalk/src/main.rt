@@ -7,7 +7,7 @@ use libc::{STDERR_FILENO, STDIN_FILENO, STDOUT_FILENO};
 use maskwalk_text::{HELD, Scan, TEXT, feed, finish, first, is_open};
 
 // What one read came to.
-#[derive(Drop)]
+#[derive(Clone, Copy)]
 enum Turn {
     // There may be more.
     More(Scan),

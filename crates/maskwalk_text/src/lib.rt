@@ -24,7 +24,7 @@ pub const OVER: usize = 4225;
 pub const TEXT: usize = 320;
 
 // How far the input has been read.
-#[derive(Drop)]
+#[derive(Clone, Copy)]
 pub enum Scan {
     // So many bytes of the start and the letters; of letters too many one is counted.
     Reading(usize),

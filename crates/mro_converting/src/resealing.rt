@@ -11,7 +11,7 @@ use mro::stream::stream_block;
 use words::block::{load, store, xor};
 
 // A stream: the block that begins with its tag, and the mask of all its blocks.
-#[derive(Drop)]
+#[derive(Clone, Copy)]
 struct Stream {
     tag: [u64; 16],
     mask: [u64; 16],

@@ -12,7 +12,7 @@ use words::block::{load, store, xor, zero};
 
 // The check over the blocks passed, and for the next block the mask that opens it and the mask that
 // seals it.
-#[derive(Drop)]
+#[derive(Clone, Copy)]
 pub struct Resealed {
     pub sum: [u64; 16],
     pub from: [u64; 16],

@@ -6,7 +6,7 @@ ghost use Rattle.permutation.specs.Permutation.{g_of, back_gof, g_at, back_gat};
 use words::word::{rotate_left, rotate_right};
 
 // Four words.
-#[derive(Drop)]
+#[derive(Clone, Copy)]
 pub struct Quad {
     pub a: u64,
     pub b: u64,

@@ -8,7 +8,7 @@ pub mod one_mask;
 pub mod spreading;
 
 // Four blocks.
-#[derive(Drop)]
+#[derive(Clone, Copy)]
 pub struct Four {
     pub a: [u64; 16],
     pub b: [u64; 16],

@@ -10,7 +10,7 @@ ghost use Rattle.quads.specs.Quads.{nth, Spread, MaskedWords, Masked};
 use crate::Four;
 
 // Four lanes, and a sum with the four blocks more in it.
-#[derive(Drop)]
+#[derive(Clone, Copy)]
 pub struct Summed {
     pub lanes: [u64; 64],
     pub sum: [u64; 16],

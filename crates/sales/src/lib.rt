@@ -14,7 +14,7 @@ use mro::{open, seal};
 mod fields;
 
 // A new sale: the numbers that name it, the caller's eight bytes of the nonce, and what its record holds.
-#[derive(Drop)]
+#[derive(Clone, Copy)]
 pub struct Sale {
     pub machine: u32,
     pub sale: u32,
@@ -43,7 +43,7 @@ pub fn write_sale(key: &[u8], of: Sale, out: &mut [u8])
 
 // Whether 61 bytes open, and what their record holds, in which only a sale of kind 2 has a price; zeros
 // where they don't.
-#[derive(Drop)]
+#[derive(Clone, Copy)]
 pub struct Opened {
     pub opens: bool,
     pub amount: u32,

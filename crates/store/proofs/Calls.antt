@@ -98,24 +98,24 @@ module _ (key : List ℕ) (x : Sale) (s : List ℕ) where
 -- a result as the checks that it comes from
 abbrev check_in : Named → Check
 check_in (Open before c amount price) = Clear
-check_in (NamedRefused ground place) = Fails ground place
+check_in (NamedRefused why place) = Fails why place
 
 -- its four numbers
 abbrev before_in : Named → ℕ
 before_in (Open before c amount price) = before
-before_in (NamedRefused ground place) = 0
+before_in (NamedRefused why place) = 0
 
 abbrev cell_in : Named → ℕ
 cell_in (Open before c amount price) = c
-cell_in (NamedRefused ground place) = 0
+cell_in (NamedRefused why place) = 0
 
 abbrev amount_in : Named → ℕ
 amount_in (Open before c amount price) = amount
-amount_in (NamedRefused ground place) = 0
+amount_in (NamedRefused why place) = 0
 
 abbrev price_in : Named → ℕ
 price_in (Open before c amount price) = price
-price_in (NamedRefused ground place) = 0
+price_in (NamedRefused why place) = 0
 
 check-back : (c : Check) (b n a p : ℕ) → check_in (refused_or NamedRefused c (Open b n a p)) ≡ c
 unfolding refused_or

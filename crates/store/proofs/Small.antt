@@ -125,7 +125,7 @@ look-up-kind key machine sale s = kind-judged (cancel_checks key machine sale s)
 -- a look-up by its number and the two variables
 abbrev look_up_of : Answer → ℕ → ℕ → LookUp
 look_up_of (Done kind) amount price = cond (eqb kind 2) (Priced amount price) (Unpriced amount)
-look_up_of (Refused ground place) amount price = LookUpRefused ground place
+look_up_of (Refused why place) amount price = LookUpRefused why place
 
 look-up-back : (r : LookUp) (amount price : ℕ) → look_up_of (kind_told r) (amount_told r amount) (price_told r price) ≡ r
 unfolding kind_told amount_told price_told

@@ -72,7 +72,7 @@ total_call key s = judged (total_checks key s) (Done (cash (sales_in key s)))
 
 -- read: "A reader that names a sale receives its 61 bytes as a part of the store itself; where refused, an empty part"
 unfoldable pub read_part : ℕ → ℕ → List ℕ → List ℕ
-read_part machine sale s = refused_or (λ ground place. []) (read_checks machine sale s) (body_of s (cell_named machine sale s))
+read_part machine sale s = refused_or (λ why place. []) (read_checks machine sale s) (body_of s (cell_named machine sale s))
 
 -- read's second call: the number and place of the refusal, 0 and 0 where nothing is refused
 unfoldable pub read_refusal : ℕ → ℕ → List ℕ → Answer
@@ -101,19 +101,19 @@ look_up_call key machine sale s = refused_or LookUpRefused (cancel_checks key ma
 unfoldable pub kind_told : LookUp → Answer
 kind_told (Priced amount price) = Done priced
 kind_told (Unpriced amount) = Done unpriced
-kind_told (LookUpRefused ground place) = Refused ground place
+kind_told (LookUpRefused why place) = Refused why place
 
 -- what C's variable for the amount holds afterwards, by what it held before
 unfoldable pub amount_told : LookUp → ℕ → ℕ
 amount_told (Priced amount price) before = amount
 amount_told (Unpriced amount) before = amount
-amount_told (LookUpRefused ground place) before = before
+amount_told (LookUpRefused why place) before = before
 
 -- and that for the price: unchanged where there is none, and where refused
 unfoldable pub price_told : LookUp → ℕ → ℕ
 price_told (Priced amount price) before = price
 price_told (Unpriced amount) before = before
-price_told (LookUpRefused ground place) before = before
+price_told (LookUpRefused why place) before = before
 
 -- for C: the one number, and the two variables
 unfoldable pub looked_up : LookUp → ℕ → ℕ → ℕ × (ℕ × ℕ)

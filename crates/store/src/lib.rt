@@ -21,7 +21,7 @@ use entries::summing::sum_up;
 use sales::{Sale, open_sale};
 
 // What a look-up answers.
-#[derive(Drop)]
+#[derive(Clone, Copy)]
 pub enum LookUp {
     // The amount and the listed price.
     Priced(u32, u32),
@@ -31,7 +31,7 @@ pub enum LookUp {
 }
 
 // A sale that was named, for cancel and look-up.
-#[derive(Drop)]
+#[derive(Clone, Copy)]
 pub enum Named {
     // It opens: the cell before it in the chain, its own, the amount, and what stands where kind 2 has the price.
     Open(usize, usize, u32, u32),

@@ -1,0 +1,14 @@
+-- The row is one of the eight groups: four places of a block. Assumes nothing.
+use Rattle.std.proofs.Common.{[], get_or}
+use Rattle.permutation.specs.Permutation.{columns, diagonals, groups, g_at, step_at, pick, put}
+use Rattle.permutation.proofs.Places.{row_in}
+use Rattle.permutation.proofs.Groups.{row_at, groups-rows}
+use Rattle.permutation.proofs.round.step.Goals as goal
+
+pub returns : goal.returns
+unfolding groups columns diagonals g_at step_at pick put
+returns c = c.g_at.ensures
+
+pub g_at-requires : goal.g_at-requires
+unfolding groups columns diagonals
+g_at-requires c = row_in (get_or groups c.args.k []) (row_at groups groups-rows c.args.k c.requires)
