@@ -19,5 +19,5 @@ pub returns : goal.returns
 unfolding alpha_w
 returns c =
     let s = c.args.s in
-    let h : Block s = array-block _ _ c.well-formed.0 in
+    let h : Block s = array-block _ _ c.well_formed.0 in
     rw (alpha-words s h, c.shifted.ensures, c.rotate_left.ensures)
