@@ -1,0 +1,17 @@
+-- The row is one of the eight groups: four places of a block. Assumes nothing.
+use mathlib.Core.List.{[]}
+use lib.ListN.{get_or}
+use Rattle.permutation.specs.Permutation.{columns, diagonals, groups, g_at, step_at, pick, put}
+use Rattle.permutation.proofs.Places.{row_in}
+use Rattle.permutation.proofs.Groups.{row_at, groups-rows}
+use Rattle.lanes.proofs.round.step4.Goals as goal
+
+pub g4-requires : goal.g4-requires
+unfolding groups columns diagonals
+g4-requires c =
+    let start = c in
+    (start.requires.0, row_in (get_or groups start.args.k []) (row_at groups groups-rows start.args.k start.requires.1))
+
+pub returns : goal.returns
+unfolding groups columns diagonals g_at step_at pick put
+returns c = c.g4.ensures
