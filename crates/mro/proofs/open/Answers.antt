@@ -42,7 +42,7 @@ returns c =
     let message = message_of mode parcel in
     let load = c.load_tag-tag in
     let stream = c.xor_stream in
-    let out = stream.new.1.1.1.1.0 in
+    let out = stream.new.out in
     let all : Bytes parcel = record { bytes = λ i. (c.type_inv.parcel i).fits } in
     let exact : length (tag_part parcel) ≡ 32 = simp length-drop (omega arith) in
     let tag : tag_bytes load.result ≡ tag_part parcel = ap tag_bytes (rw (tail_part n parcel) at load.ensures) ∙ tag-of-block (tag_part parcel) (bytes_drop n parcel all) exact in

@@ -33,4 +33,4 @@ returns c =
     (rw c.gamma.ensures at c.pass_blocks-blocks.ensures) in
     let q : 128 * whole s ≡ length s → ⊥ = λ e. c.if-at-n.false (omega arith) in
     let rest = rw (tail_part (128 * whole s) s) at c.pass_leftover.ensures in
-    all_left a.rounds a.start s block bytes a.opening a.out.now _ _ _ blocks _ _ _ q rest.0 rest.1.0 rest.1.1
+    all_left a.rounds a.start s block bytes a.opening a.out.now _ _ _ blocks _ _ _ q rest.out_after rest.sum_value.0 rest.sum_value.1

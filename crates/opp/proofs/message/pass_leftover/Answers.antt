@@ -5,4 +5,4 @@ pub returns : goal.returns
 returns c =
     let mask = c.beta-mask.ensures in
     let under = rw mask at c.pass_leftover_under-sum.ensures in
-    (under.0, (under.1, mask))
+    record { out_after = under.out_after; sum_value = (under.value, mask) }

@@ -9,7 +9,7 @@ use Rattle.mem.specs.Mem.{encipher}
 use Rattle.opp.proofs.message.pass_leftover_under.Goals as goal
 
 pub slice_bounds-padded_plain-end-2 : goal.slice_bounds-padded_plain-end-2
-slice_bounds-padded_plain-end-2 c = sym (length-take-le _ _ (omega (arith, c.xor_leftover.auto.1.1.0)))
+slice_bounds-padded_plain-end-2 c = sym (length-take-le _ _ (omega (arith, c.xor_leftover.auto.out)))
 
 pub padded_plain-last-requires : goal.padded_plain-last-requires
 padded_plain-last-requires c = (simp length-take (omega arith), omega arith)
@@ -22,4 +22,4 @@ returns c =
     let put = rw stream at c.xor_leftover.ensures in
     let front = ap (take (length s)) put ∙ take_at _ _ (length s) (length-xor_bytes s _) in
     let last = rw front at c.padded_plain-last.ensures in
-    (put, c.xor.ensures ∙ ap (xor_block a.sum) last)
+    record { out_after = put; value = c.xor.ensures ∙ ap (xor_block a.sum) last }
