@@ -6,10 +6,10 @@ use borrow.Author.Rules.{rules}
 use Rattle.diagnosing.proofs.answer_of.Goals as goal
 
 pub overflow_mul-result : goal.overflow_mul-result
-overflow_mul-result c = omega (arith, c.differ_number.ensures, differ-most c.d.given.0.1.0)
+overflow_mul-result c = omega (arith, c.differ_number.ensures, differ-most c.in-Other.differ)
 
 pub overflow_add-result-in-Other : goal.overflow_add-result-in-Other
-overflow_add-result-in-Other c = omega (arith, c.differ_number.ensures, differ-most c.d.given.0.1.0)
+overflow_add-result-in-Other c = omega (arith, c.differ_number.ensures, differ-most c.in-Other.differ)
 
 pub returns-in-AsAsked : goal.returns-in-AsAsked
 unfolding reason_told

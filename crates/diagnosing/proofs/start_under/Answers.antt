@@ -13,7 +13,7 @@ returns-then-not-is_unlike c =
     let at = c in
     at.requires.1.0
     ∙ start-same at.args.key.now at.args.nonce.now at.args.asked at.args.s
-    (alike at.args.asked.old at.args.s.old (sym (ap not c.is_unlike.ensures) ∙ c.if-not-is_unlike.true)) (sym c.if-s-asked.true)
+    (alike at.args.asked.old at.args.s.old (ap not (sym c.is_unlike.ensures ∙ c.if-not-is_unlike.true))) (sym c.if-s-asked.true)
 
 pub returns : goal.returns
 unfolding start_under
