@@ -10,25 +10,16 @@ use Rattle.runs.proofs.Planned.{first_block, plan-beta}
 use Rattle.blockplan.specs.Plan.{whole, left, has_left, xor_if}
 use Rattle.opp.specs.Opp.{padded, opp_sum}
 use Rattle.opp_run.proofs.FromRun.{header-from-run}
-use borrow.Author.Rules.{rules}
-use Rattle.opp_run.proofs.tag.header_sum.Statement.{statement}
-use Rattle.opp_run.proofs.tag.header_sum.Tie as tie
+use Rattle.opp_run.proofs.tag.header_sum.Goals as goal
 
-absorb-requires : tie.Need-absorb-requires
-absorb-requires c κs = search rules
-
-returns : tie.Need-returns
+pub returns : goal.returns
 unfolding opp_sum padded E
 returns c =
-    let start = c.before.before.before in
-    let a = start.args in
+    let a = c.args in
     let w = a.run.now in
-    let is = start.requires.0 in
-    let block : Block (take 16 w) = first_block w is.long (λ i. (c.before.before.shared-slice-known.given i).fits) in
+    let is = c.requires.0 in
+    let block : Block (take 16 w) = first_block w is.long (λ i. (c.type_inv.run i).fits) in
     let header = a.header.now in
     c.absorb.ensures
     ∙ ap₂ (λ (sum mask : List ℕ). xor_if (has_left header) sum (encipher a.rounds mask (padded (left header))))
-    (header-from-run w is block header start.requires.1 a.rounds) (plan-beta w is block (whole header) (omega arith))
-
-pub header-sum-spec : {M : Type 1} → statement M
-header-sum-spec = tie.close (tie.spec absorb-requires returns)
+    (header-from-run w is block header c.requires.1 a.rounds) (plan-beta w is block (whole header) (omega arith))
