@@ -10,10 +10,8 @@ use mir.Syntax.{w32}
 use mir.Val.{SFits, to_z, of_z}
 use mir.Facts.{to_z-of_z}
 use Rattle.walking.proofs.Sizes.{less_one, up_fits, flipped, less_one-lt, size, positive}
-use Rattle.walking.proofs.counts.magnitude.Statement.{statement}
-use Rattle.walking.proofs.counts.magnitude.Tie as tie
+use Rattle.walking.proofs.counts.magnitude.Goals as goal
 
--- what the machine reads back of the count, of one more, and of that negated
 module _ (c : tie.Then1) where
   here : to_z w32 (of_z w32 c.before.args.z) ≡ c.before.args.z
   here = to_z-of_z c.before.ranges.z
@@ -33,33 +31,29 @@ module _ (c : tie.Then1) where
   result : to_z w32 (of_z w32 (pos 0 -ℤ to_z w32 (of_z w32 (to_z w32 (of_z w32 c.before.args.z) +ℤ pos 1)))) ≡ pos (less_one c.before.args.z)
   result = to_z-of_z sub-less' ∙ turned
 
-add-less : tie.Need-overflow-add-less
-add-less c = add-less' c
+pub overflow_add-less : goal.overflow_add-less
+overflow_add-less c = add-less' c
 
-sub-less : tie.Need-overflow-sub-less
-sub-less c = sub-less' c
+pub overflow_sub-less : goal.overflow_sub-less
+overflow_sub-less c = sub-less' c
 
-cast-result : tie.Need-overflow-cast-result
-cast-result c =
-    let p : less_one c.before.args.z < 2 ^ 31 = less_one-lt c.before.args.z c.before.ranges.z in
+pub overflow_cast-result : goal.overflow_cast-result
+overflow_cast-result c =
+    let p : less_one c.args.z < 2 ^ 31 = less_one-lt c.args.z c.ranges.z in
     rw (result c) (tt, record { fits = omega arith })
 
-add-result : tie.Need-overflow-add-result
-add-result c =
-    let p : less_one c.before.args.z < 2 ^ 31 = less_one-lt c.before.args.z c.before.ranges.z in
+pub overflow_add-result : goal.overflow_add-result
+overflow_add-result c =
+    let p : less_one c.args.z < 2 ^ 31 = less_one-lt c.args.z c.ranges.z in
     rw (result c) (record { fits = omega arith })
 
-cast-result-2 : tie.Need-overflow-cast-result-2
-cast-result-2 c =
-    let here : to_z w32 (of_z w32 c.before.args.z) ≡ c.before.args.z = to_z-of_z c.before.ranges.z in
-    rw here (positive c.before.args.z (rw here at c.if1.false) c.before.ranges.z)
+pub overflow_cast-result-else-z-lt0 : goal.overflow_cast-result-else-z-lt0
+overflow_cast-result-else-z-lt0 c =
+    let here : to_z w32 (of_z w32 c.args.z) ≡ c.args.z = to_z-of_z c.ranges.z in
+    rw here (positive c.args.z (rw here at c.if-z-lt0.false) c.ranges.z)
 
-returns : tie.Need-returns
-returns c = rw (result c) (add-one (less_one c.before.args.z) ∙ sym (size c.before.args.z (negative c)))
+pub returns-then-z-lt0 : goal.returns-then-z-lt0
+returns-then-z-lt0 c = rw (result c) (add-one (less_one c.args.z) ∙ sym (size c.args.z (negative c)))
 
-returns-2 : tie.Need-returns-2
-returns-2 c = rw (to_z-of_z c.before.ranges.z)
-
-pub magnitude-spec : {M : Type 1} → statement M
-magnitude-spec =
-    tie.close (tie.spec add-less sub-less cast-result add-result cast-result-2 returns returns-2)
+pub returns-else-z-lt0 : goal.returns-else-z-lt0
+returns-else-z-lt0 c = rw (to_z-of_z c.ranges.z)
