@@ -12,11 +12,9 @@ returns-then-start-ne128 c = simp (ne_eqb _ _ c.if-start-ne128.true)
 pub returns-then-not-all_in_range : goal.returns-then-not-all_in_range
 unfolding jump_checks line line_at
 returns-then-not-all_in_range c =
-    let start = c in
-    simp (eq-eqb _ _ c.if-start-ne128.false, ← (ranges start.args.alpha start.args.beta start.args.gamma start.ranges.alpha start.ranges.beta start.ranges.gamma c.all_in_range.ensures), c.if-not-all_in_range.true)
+    simp (eq-eqb _ _ c.if-start-ne128.false, ← (ranges c.args.alpha c.args.beta c.args.gamma c.ranges.alpha c.ranges.beta c.ranges.gamma c.all_in_range.ensures), c.if-not-all_in_range.true)
 
 pub returns : goal.returns
 unfolding jump_checks line line_at
 returns c =
-    let start = c in
-    simp (eq-eqb _ _ c.if-start-ne128.false, ← (ranges start.args.alpha start.args.beta start.args.gamma start.ranges.alpha start.ranges.beta start.ranges.gamma c.all_in_range.ensures), c.if-not-all_in_range.false, c.room.ensures)
+    simp (eq-eqb _ _ c.if-start-ne128.false, ← (ranges c.args.alpha c.args.beta c.args.gamma c.ranges.alpha c.ranges.beta c.ranges.gamma c.all_in_range.ensures), c.if-not-all_in_range.false, c.room.ensures)

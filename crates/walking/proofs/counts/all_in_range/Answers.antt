@@ -5,19 +5,12 @@ use Rattle.walking.proofs.counts.all_in_range.Goals as goal
 
 pub returns-then-in_range-2 : goal.returns-then-in_range-2
 returns-then-in_range-2 c =
-    let one = c in
-    let two = c in
-    let start = one in
-    simp (tested start.args.a start.ranges.a one.in_range.ensures c.if-in_range.true, tested start.args.b start.ranges.b two.in_range-then-in_range.ensures c.if-in_range-2.true, c.in_range-then-in_range-2.ensures, to_z-of_z start.ranges.c)
+    simp (tested c.args.a c.ranges.a c.in_range.ensures c.if-in_range.true, tested c.args.b c.ranges.b c.in_range-then-in_range.ensures c.if-in_range-2.true, c.in_range-then-in_range-2.ensures, to_z-of_z c.ranges.c)
 
 pub returns-else-in_range-2 : goal.returns-else-in_range-2
 returns-else-in_range-2 c =
-    let one = c in
-    let two = c in
-    let start = one in
-    simp (tested start.args.a start.ranges.a one.in_range.ensures c.if-in_range.true, tested start.args.b start.ranges.b two.in_range-then-in_range.ensures c.if-in_range-2.false)
+    simp (tested c.args.a c.ranges.a c.in_range.ensures c.if-in_range.true, tested c.args.b c.ranges.b c.in_range-then-in_range.ensures c.if-in_range-2.false)
 
 pub returns-else-in_range : goal.returns-else-in_range
 returns-else-in_range c =
-    let start = c in
-    simp (tested start.args.a start.ranges.a c.in_range.ensures c.if-in_range.false)
+    simp (tested c.args.a c.ranges.a c.in_range.ensures c.if-in_range.false)

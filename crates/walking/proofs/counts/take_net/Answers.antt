@@ -9,14 +9,12 @@ use Rattle.walking.proofs.counts.take_net.Goals as goal
 
 pub returns-then-z-lt0 : goal.returns-then-z-lt0
 returns-then-z-lt0 c =
-    let start = c in
-    let here : to_z w32 (of_z w32 start.args.z) ≡ start.args.z = to_z-of_z start.ranges.z in
+    let here : to_z w32 (of_z w32 c.args.z) ≡ c.args.z = to_z-of_z c.ranges.z in
     c.take_many.ensures ∙ rw (c.magnitude.ensures, here)
-    (net_steps-back (step start.args.kind) _ start.args.z start.args.start (rw here at c.if-z-lt0.true))
+    (net_steps-back (step c.args.kind) _ c.args.z c.args.start (rw here at c.if-z-lt0.true))
 
 pub returns-else-z-lt0 : goal.returns-else-z-lt0
 returns-else-z-lt0 c =
-    let start = c in
-    let here : to_z w32 (of_z w32 start.args.z) ≡ start.args.z = to_z-of_z start.ranges.z in
+    let here : to_z w32 (of_z w32 c.args.z) ≡ c.args.z = to_z-of_z c.ranges.z in
     c.take_many-else-z-lt0.ensures ∙ rw (c.magnitude-else-z-lt0.ensures, here)
-    (net_steps-on (step start.args.kind) _ start.args.z start.args.start (rw here at c.if-z-lt0.false))
+    (net_steps-on (step c.args.kind) _ c.args.z c.args.start (rw here at c.if-z-lt0.false))

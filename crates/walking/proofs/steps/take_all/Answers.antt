@@ -1,6 +1,5 @@
 -- The loop's invariant: what is left of the list leads from b to the same end. Assumes nothing.
 use mathlib.Core.Path.{refl, sym, ◌∙◌}
-use Prim.Native.Nat.{◌-◌}
 use native.Mathlib.Omega.{arith}
 use native.Mathlib.Numerals.{add-one}
 use lib.ListN.{drop_of_length-le}

@@ -1,6 +1,5 @@
 -- The loop's invariant: b is the start after i steps. Assumes nothing.
 use mathlib.Core.Path.{◌≡◌, refl}
-use Prim.Native.Nat.{◌-◌}
 use native.Mathlib.Omega.{arith}
 use Rattle.words.specs.Sequence.{times}
 use Rattle.words.proofs.Lists.{timesed}
