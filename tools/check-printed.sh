@@ -79,7 +79,7 @@ BEGIN {
     check(groups, "fn step(", "\nlet q = GROUPS[k];\ng_at(s, " named)
     check(groups4, "fn step4(", "\nlet q = GROUPS[k];\ng4(w, " named ";")
     check(groups4, "use ", "\nuse permutation::round::GROUPS;")
-    check(lines4, "use ", "\nuse permutation::g::g;")
+    check(lines4, "use ", "\nuse permutation::g::{Quad, back_g, g};")
     for (m = 0; m < 4; m++) lanes = lanes "\ng_lane(w, i, j, k, l, " m ");"
     check(lines4, "pub fn g4(", lanes)
     split("a b c d", letter, " ")
@@ -97,18 +97,18 @@ BEGIN {
     for (k = 1; k <= n; k++) {
         if (split(step[k], w, " ") == 2) {
             printed = w[1] " = " w[1] " + " w[2] ";"
-            definition = "let " w[1] " = addW " w[1] " " w[2] " in"
+            definition = "let " w[1] " = add_w " w[1] " " w[2] " in"
             code = w[1] " = add(" w[1] ", " w[2] ");"
         } else {
             printed = w[1] " = (" w[1] " ⊕ " w[2] ") ⋙ " w[3] ";"
-            definition = "let " w[1] " = rotR " w[3] " (bitXor " w[1] " " w[2] ") in"
+            definition = "let " w[1] " = rot_r " w[3] " (bit_xor " w[1] " " w[2] ") in"
             code = w[1] " = rotate_right(" w[1] " ^ " w[2] ", " w[3] ");"
         }
         defined = defined "\n" definition
         coded = coded "\n" code
         rows = rows row(printed, definition, code, "")
     }
-    check(definitions, "gOf q =", defined)
+    check(definitions, "g_of q =", defined)
     check(lines, "pub fn g(", coded)
     check(page, "| Section 8 |", rows)
 
