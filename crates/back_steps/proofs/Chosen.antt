@@ -85,7 +85,7 @@ module _ (t : List ℕ) (small : (i : ℕ) → get_or t i 0 < 2 ^ 64) (at step :
   chosen-unit j (suc n) h = elim (dec_lt j n) [
     | yes p ↦ rw (bit-above j n p, chosen-unit j n p, mul-zero)
     | no q ↦ let e : j ≡ n = omega arith in
-        rw (e, bit-on n, below n n (omega arith), mul-one) (xor_zero_r (get_or t (at + step * n) 0))
+        rw (e, bit-on n, below j n (omega arith), mul-one) (xor_zero_r (get_or t (at + step * n) 0))
   ]
 
 -- ---- the words of a table

@@ -14,13 +14,13 @@ unfoldable pub is_one_of : List ℕ → ℕ → Bool
 is_one_of [] n = false
 is_one_of (k ∷ ks) n = eqb n k || is_one_of ks n
 
--- the round counts that sealing and opening accept (document 02, card 2)
+-- the round counts that is_rounds accepts, as a list (document 02, cards 2 and 9)
 unfoldable pub round_counts : List ℕ
 round_counts = 4 ∷ 6 ∷ 8 ∷ 12 ∷ []
 
--- rounds: one of these
+-- rounds 4, 6, 8 or 12 (document 02, card 2)
 unfoldable pub is_rounds : ℕ → Bool
-is_rounds rounds = is_one_of round_counts rounds
+is_rounds rounds = is_one_of (4 ∷ 6 ∷ 8 ∷ 12 ∷ []) rounds
 
 -- seal, open, convert, diagnose, first to fifth: mode, rounds, and the lengths of key, nonce and header; then the checks behind them
 unfoldable pub settings : ℕ → ℕ → ℕ → ℕ → ℕ → Check → Check

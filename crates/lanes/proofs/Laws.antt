@@ -5,12 +5,9 @@ use mathlib.Core.List.{List, [], ◌∷◌}
 use Prim.Native.Nat.{ℕ, suc, zero, ◌+◌, ◌*◌, ◌<◌}
 use native.Mathlib.Omega.{arith}
 use native.Mathlib.Decide.{dec_lt}
-use lib.ListN.{length, get_or, set, take, length-set}
+use lib.ListN.{length, get_or, set, length-set}
 use lib.Seq.{get_or-set_same, get_or-set_other, ext_get_or}
-use Rattle.words.specs.Sequence.{tab}
-use Rattle.words.proofs.Lists.{length-tab, get_or-tab, tab-ext, stored, filled}
-use Rattle.words.specs.Block.{xor_at, xor_block}
-use lib.Bits.{bit_xor}
+use Rattle.words.proofs.Lists.{length-tab, get_or-tab, tab-ext}
 use Rattle.permutation.specs.Permutation.{pick, put, step_at}
 use Rattle.permutation.specs.declared.g.Quad.{Quad}
 use Rattle.lanes.specs.Lanes.{lane_at, lane, OneLane, AllLanes}

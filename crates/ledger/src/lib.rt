@@ -1,4 +1,3 @@
 // The conserved total of a store, over histories of calls; no code.
 
 #![tactic(auto)]
-

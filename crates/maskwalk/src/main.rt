@@ -3,8 +3,11 @@
 
 #![tactic(auto)]
 
-use libc::{STDERR_FILENO, STDIN_FILENO, STDOUT_FILENO};
 use maskwalk_text::{HELD, Scan, TEXT, feed, finish, first, is_open};
+use std::io::{Read, Write};
+
+// The most bytes that one read asks for.
+const PART: usize = 65536;
 
 // What one read came to.
 #[derive(Clone, Copy)]
@@ -18,13 +21,11 @@ enum Turn {
 }
 
 // Reads once, and feeds what came to the scan.
-fn read_some(s: Scan, held: &mut [u8; HELD]) -> Turn {
-    let mut part = io::large_buffer();
-    let got = libc::read(STDIN_FILENO, &mut part);
-    if got < 0 {
+fn read_some<R: Read>(input: &mut R, s: Scan, held: &mut [u8; HELD]) -> Turn {
+    let mut part = [0u8; PART];
+    let Ok(n) = input.read(&mut part) else {
         return Turn::Failed;
-    }
-    let n = io::count(got, &part);
+    };
     if n == 0 {
         return Turn::Done(s);
     }
@@ -36,13 +37,12 @@ fn read_some(s: Scan, held: &mut [u8; HELD]) -> Turn {
     }
 }
 
-// A proved loop has to end, and nothing says that the input does. So the loop counts its turns
-// down; each reads a byte or more, and no input has 2^64 of them.
-fn read_all(held: &mut [u8; HELD]) -> Turn {
-    let mut turns = u64::MAX;
+// A proved loop has to end, and nothing says that the input does. So the loop counts its turns;
+// each reads a byte or more, and no input has 2^64 of them.
+fn read_all<R: Read>(input: &mut R, held: &mut [u8; HELD]) -> Turn {
     let mut s = first();
-    while turns > 0 {
-        let turn = read_some(s, held);
+    for _ in 0..u64::MAX {
+        let turn = read_some(input, s, held);
         match turn {
             Turn::More(next) => {
                 s = next;
@@ -54,20 +54,19 @@ fn read_all(held: &mut [u8; HELD]) -> Turn {
                 return Turn::Failed;
             }
         }
-        turns -= 1;
     }
     Turn::Failed
 }
 
 // Prints the text. Where the input cannot be read to its end, nothing goes to standard output.
-fn main() {
+fn main(rt: HostRuntime) {
     let mut held = [0u8; HELD];
-    let turn = read_all(&mut held);
+    let turn = read_all(&mut rt.stdin(), &mut held);
     let Turn::Done(s) = turn else {
-        io::write_all(STDERR_FILENO, b"maskwalk: the input cannot be read\n");
+        let _ = rt.eprintln("maskwalk: the input cannot be read");
         return;
     };
     let mut out = [0u8; TEXT];
     let n = finish(s, &held, &mut out);
-    io::write_all(STDOUT_FILENO, &out[..n]);
+    let _ = rt.stdout().write_all(&out[..n]);
 }

@@ -4,7 +4,7 @@ use mathlib.Core.List.{List, [], ◌∷◌, ◌++◌, append_assoc}
 use Prim.Native.Nat.{ℕ, zero, suc, ◌+◌, ◌/◌, ◌%◌, ◌≤◌, ◌<◌}
 use native.Mathlib.Numerals.{add-one}
 use native.Mathlib.Omega.{arith}
-use lib.ListN.{length, get_or, take, drop, set, length-append, length-drop}
+use lib.ListN.{length, get_or, take, drop, set, length-append}
 use lib.Seq.{drop-cons, take-suc, set_at, append_snoc, get_or-set_same, drop-set-lt, lt-length-set, length-take-le}
 use Rattle.words.proofs.Lists.{length-cat}
 use Rattle.maskwalk_text.specs.Text.{digit, digits, line, lines, written}
@@ -39,10 +39,6 @@ length_digits base (suc k) n = length-append (digits base k (n / base)) (digit (
 pub length-line : (i word : ℕ) → length (line i word) ≡ 20
 unfolding line
 length-line i word = simp (length-append, length_digits)
-
--- a line in place keeps the length
-pub line-long : (i word : ℕ) (out : List ℕ) → 20 ≤ length out → length (line i word ++ drop 20 out) ≡ length out
-line-long i word out h = simp (length-append, length-line, length-drop) (omega arith)
 
 pub length-lines : (b : List ℕ) → length (lines b) ≡ 320
 unfolding lines

@@ -9,12 +9,11 @@ use borrow.Rule.Slice.PartMut.{put_mid}
 use Rattle.words.specs.Sequence.{tab, cat, fold}
 use Rattle.words.specs.Block.{bytes_of, xor_at, xor_block}
 use Rattle.words.proofs.Lists.{get_or-tab, tab-ext, cat-ext, stored, filled, appended}
-use Rattle.words.proofs.Blocks.{length-bytes_of}
 use Rattle.masks.specs.Run.{neighbours}
 use Rattle.lanes.specs.Lanes.{lane}
 use Rattle.lanes.proofs.Laws.{length-lane, get_or-lane, lane-set, lane-set-other, in_four}
 use Rattle.quads.specs.declared.Four.{Four}
-use Rattle.quads.specs.Quads.{nth, FourAre, Spread}
+use Rattle.quads.specs.Quads.{nth, FourAre}
 
 -- a word of a mask, its two places in the sum exchanged
 pub word_moved : (kind : ℕ) (run : List ℕ) (n i m y : ℕ) → y ≡ neighbours kind run (n + i + m) → y ≡ neighbours kind run (n + m + i)

@@ -9,7 +9,7 @@ use lib.ListN.{length, take, drop, length-drop}
 use lib.Seq.{drop-drop}
 use borrow.Rule.Slice.PartMut.{put_mid}
 use Rattle.words.specs.Sequence.{cat, fold}
-use Rattle.words.specs.Block.{block_of, bytes_of, xor_block, xor_bytes}
+use Rattle.words.specs.Block.{bytes_of, xor_block, xor_bytes}
 use Rattle.words.proofs.Lists.{length-cat, cat-ext, cat-add, fronted}
 use Rattle.masks.specs.Run.{mask_from}
 use Rattle.blockplan.specs.Plan.{whole, left, block_at, xor_over, ciphered}

@@ -3,7 +3,7 @@ use Rattle.std.specs.Prelude.{not, List, [], ℕ, ◌+◌, ◌*◌, eqb, length}
 use Rattle.answers.specs.Answers.{code_of, line, line_at, checked, refused_or, judged}
 use Rattle.answers.specs.declared.Ground.TheVariants.{KeyLength, TagDiffers, StoreFull, SaleNumbers}
 use Rattle.answers.specs.declared.Check.{Check}
-use Rattle.answers.specs.declared.Check.TheVariants.{Clear, Fails}
+use Rattle.answers.specs.declared.Check.TheVariants.{Clear}
 use Rattle.answers.specs.declared.Answer.{Answer}
 use Rattle.answers.specs.declared.Answer.TheVariants.{Done, Refused}
 use Rattle.cells.specs.Chains.{some, first}

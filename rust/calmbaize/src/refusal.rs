@@ -92,7 +92,7 @@ macro_rules! grounds {
                 match self {
                     $(Self::$name => $text,)+
                     Self::Unknown { number: 0 } => {
-                        "kind, offset or reason {place} is not known to this version"
+                        "kind or offset {place} is not known to this version"
                     }
                     Self::Unknown { .. } => "ground is not known to this version, at {place}",
                 }

@@ -107,6 +107,5 @@ fn refusals_are_errors_with_a_text() {
     assert!(text(20).starts_with("cell 7 is in neither chain, or its kind "));
     assert_eq!(text(UNKNOWN), "ground is not known to this version, at 7");
     let kind = decode_look_up(3, 150, 149).unwrap_err().to_string();
-    let wanted = "kind, offset or reason 3 is not known to this version";
-    assert_eq!(kind, wanted);
+    assert_eq!(kind, "kind or offset 3 is not known to this version");
 }

@@ -23,5 +23,5 @@ returns c =
     let start = c in
     let s = start.args.s in
     let side = side-is s _ c.beta_run-p.ensures in
-    back-meets beta-undo s _ (array-block _ _ start.well-formed.0)
+    back-meets beta-undo s _ (array-block _ _ start.well_formed.0)
     (rw (c.beta_run.ensures, c.choose.ensures, c.shift_left.ensures, side))

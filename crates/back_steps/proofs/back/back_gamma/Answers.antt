@@ -34,7 +34,7 @@ returns c =
     let start = c in
     let run = c.gamma_run-p.ensures in
     let s = start.args.s in
-    back-meets gamma-undo s _ (array-block _ _ start.well-formed.0)
+    back-meets gamma-undo s _ (array-block _ _ start.well_formed.0)
     (rw (
       c.gamma_run.ensures,
       c.gamma_word-2.ensures,

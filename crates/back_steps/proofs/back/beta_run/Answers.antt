@@ -1,6 +1,5 @@
 -- The loop's invariant: the first i words are in, and u is the next. Assumes nothing.
 use mathlib.Core.Path.{refl}
-use Prim.Native.Nat.{◌-◌}
 use native.Mathlib.Omega.{arith}
 use native.Mathlib.Numerals.{add-one}
 use Rattle.words.proofs.Loops.{filling-none, filling-more, filling-done}

@@ -1,6 +1,5 @@
 -- The loop's invariant: the first i words are in, and u and v are the next two. Assumes nothing.
 use mathlib.Core.Path.{refl}
-use Prim.Native.Nat.{◌-◌}
 use native.Mathlib.Omega.{arith}
 use Rattle.words.proofs.Loops.{filling-none, filling-more, filling-done}
 use Rattle.back_steps.specs.BackSteps.{gamma_run}

@@ -30,7 +30,7 @@ pub loop-c-preserved : goal.loop-c-preserved
 unfolding unmarked
 loop-c-preserved c =
     let at = c.loop-c in
-    ((omega arith, omega arith), at.invariant.1 ∙ first_on _ at.c _ (omega arith) (ap not (sym c.is_marked.ensures) ∙ c.if-not-is_marked.false))
+    ((omega arith, omega arith), at.invariant.1 ∙ first_on _ at.c _ (omega arith) (ap not (sym c.is_marked.ensures ∙ c.if-not-is_marked.false)))
 
 pub returns-then-c-end : goal.returns-then-c-end
 returns-then-c-end c =
@@ -41,4 +41,4 @@ pub returns-then-not-is_marked : goal.returns-then-not-is_marked
 unfolding unmarked
 returns-then-not-is_marked c =
     let at = c.loop-c in
-    sym (at.invariant.1 ∙ first-here _ at.c _ (omega arith) (ap not (sym c.is_marked.ensures) ∙ c.if-not-is_marked.true))
+    sym (at.invariant.1 ∙ first-here _ at.c _ (omega arith) (ap not (sym c.is_marked.ensures ∙ c.if-not-is_marked.true)))

@@ -29,7 +29,7 @@ unfolding cells
 first_unreached-requires c =
     let sold = sales-walked _ _ _ _ _ c.index_at.ensures c.walk-sales.ensures.1 c.requires.1 in
     let all = free-walked _ _ _ _ _ _ c.index_at-in-End.ensures c.walk-free.ensures.1 sold in
-    ((all.lowest.most, omega arith), (misfit-low _ _ _ _ _ sold c.in_default.is all c.walk-free.ensures.0.head c.requires.0.0, c.walk-free.ensures.0))
+    ((all.lowest.most, omega arith), (misfit-low _ _ _ _ _ sold c.in-End.is all c.walk-free.ensures.0.head c.requires.0.0, c.walk-free.ensures.0))
 
 pub returns-in-Broken : goal.returns-in-Broken
 unfolding cells
@@ -42,7 +42,7 @@ unfolding cells
 returns-in-Broken-free_stop c =
     let sold = sales-walked _ _ _ _ _ c.index_at.ensures c.walk-sales.ensures.1 c.requires.1 in
     let all = free-walked _ _ _ _ _ _ c.index_at-in-End.ensures c.walk-free.ensures.1 sold in
-    broken-free _ _ _ _ _ sold c.in-Broken.is all _ c.in-Broken.is
+    broken-free _ _ _ _ _ sold c.in-End.is all _ c.in-Broken-free_stop.is
 
 pub returns-in-End-free_stop : goal.returns-in-End-free_stop
 unfolding cells
@@ -51,4 +51,4 @@ returns-in-End-free_stop c =
     let all = free-walked _ _ _ _ _ _ c.index_at-in-End.ensures c.walk-free.ensures.1 sold in
     let told = c.in-End.is in
     c.kind_fault.ensures
-    ∙ last-check _ _ _ _ _ sold told all _ c.in-End.is (misfit-low _ _ _ _ _ sold told all c.walk-free.ensures.0.head c.requires.0.0) c.first_unreached.ensures
+    ∙ last-check _ _ _ _ _ sold told all _ c.in-End-free_stop.is (misfit-low _ _ _ _ _ sold told all c.walk-free.ensures.0.head c.requires.0.0) c.first_unreached.ensures

@@ -2,7 +2,6 @@ use mathlib.Core.Path.{sym, ◌∙◌}
 use mathlib.Core.Bool.{false≢true}
 use mathlib.Core.List.{[]}
 use native.Mathlib.Omega.{arith}
-use borrow.Author.Tests.{not-false}
 use Rattle.cells.specs.Cells.{cells, first_sale, first_free}
 use Rattle.chains.proofs.Sounds.{both-more}
 use Rattle.chains.proofs.sound.walk_both.Goals as goal
@@ -42,7 +41,7 @@ loop-sold-preserved c =
     let l = c.loop-sold in
     let a = c.link_of-sale.ensures in
     let b = c.link_of-spare.ensures in
-    rw (a.0, b.0) (both-more _ l.sold l.free l.left l.invariant c.if-sold-eq0.false c.if-free-eq0.false (omega arith) (omega arith) (rw a.1 at (sym c.kind_fits.ensures ∙ not-false _ c.if-not-kind_fits.false)) (rw b.1 at (sym c.kind_fits-in-loop-sold.ensures ∙ not-false _ c.if-not-kind_fits-2.false)) (omega arith))
+    rw (a.0, b.0) (both-more _ l.sold l.free l.left l.invariant c.if-sold-eq0.false c.if-free-eq0.false (omega arith) (omega arith) (rw a.1 at (sym c.kind_fits.ensures ∙ c.if-not-kind_fits.false)) (rw b.1 at (sym c.kind_fits-in-loop-sold.ensures ∙ c.if-not-kind_fits-2.false)) (omega arith))
 
 pub returns-then-sold-eq0 : goal.returns-then-sold-eq0
 returns-then-sold-eq0 c = λ h. c.loop-sold.invariant

@@ -2,7 +2,6 @@ use mathlib.Core.Path.{refl, sym, ◌∙◌}
 use mathlib.Core.Bool.{false≢true}
 use mathlib.Core.List.{[]}
 use native.Mathlib.Omega.{arith}
-use borrow.Author.Tests.{not-false}
 use Rattle.cells.specs.Cells.{cells}
 use Rattle.chains.proofs.Sounds.{one_more}
 use Rattle.chains.proofs.sound.walk_one.Goals as goal
@@ -25,7 +24,7 @@ unfolding cells
 loop-at-preserved c =
     let l = c.loop-at in
     let link = c.link_of-link.ensures in
-    rw link.0 (one_more _ _ _ l.at _ l.left l.invariant c.if-at-eq0.false (omega arith) (rw link.1 at (sym c.kind_fits.ensures ∙ not-false _ c.if-not-kind_fits.false)) (omega arith))
+    rw link.0 (one_more _ _ _ l.at _ l.left l.invariant c.if-at-eq0.false (omega arith) (rw link.1 at (sym c.kind_fits.ensures ∙ c.if-not-kind_fits.false)) (omega arith))
 
 pub returns-then-at-eq0 : goal.returns-then-at-eq0
 returns-then-at-eq0 c = λ h. rw c.if-at-eq0.true at c.loop-at.invariant

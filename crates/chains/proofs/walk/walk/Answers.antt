@@ -2,7 +2,7 @@ use mathlib.Core.Path.{refl, sym, ◌∙◌}
 use Prim.Native.Nat.{◌/◌}
 use native.Mathlib.Omega.{arith}
 use lib.ListN.{length}
-use Rattle.cells.specs.Cells.{cells, kind_fits}
+use Rattle.cells.specs.Cells.{cells}
 use Rattle.cells.proofs.Walks.{walk_end, walk-past, walk-twice}
 use Rattle.chains.proofs.Walks.{arrived, onward}
 use Rattle.chains.proofs.Bits.{bit-none, bit-some, unreached-one, unreached-less}
@@ -25,9 +25,8 @@ mark-requires c = (omega arith, bit-none _ _ (sym c.is_marked.ensures ∙ c.if-i
 pub overflow_sub-left : goal.overflow_sub-left
 unfolding cells
 overflow_sub-left c =
-    let u = c in
-    let l = u in
-    unreached-one l.loop-at.marks-1 l.loop-at.at _ l.loop-at.left (omega arith) l.loop-at.invariant.0.1 (λ e. omega arith) (omega arith) (bit-none _ _ (sym u.is_marked.ensures ∙ u.if-is_marked.false))
+    let l = c.loop-at in
+    unreached-one l.marks l.at _ l.left (omega arith) l.invariant.0.1 (λ e. omega arith) (omega arith) (bit-none _ _ (sym c.is_marked.ensures ∙ c.if-is_marked.false))
 
 pub link_of-link-requires : goal.link_of-link-requires
 unfolding cells
@@ -36,24 +35,22 @@ link_of-link-requires c = omega arith
 pub loop-at-smaller : goal.loop-at-smaller
 unfolding cells
 loop-at-smaller c =
-    let u = c in
-    let l = u in
-    let h = unreached-one l.loop-at.marks-1 l.loop-at.at _ l.loop-at.left (omega arith) l.loop-at.invariant.0.1 (λ e. omega arith) (omega arith) (bit-none _ _ (sym u.is_marked.ensures ∙ u.if-is_marked.false)) in
+    let l = c.loop-at in
+    let h = unreached-one l.marks l.at _ l.left (omega arith) l.invariant.0.1 (λ e. omega arith) (omega arith) (bit-none _ _ (sym c.is_marked.ensures ∙ c.if-is_marked.false)) in
     omega arith
 
 pub loop-at-preserved : goal.loop-at-preserved
 unfolding cells
 loop-at-preserved c =
-    let u = c in
-    let l = u.loop-at in
-    let new = bit-none _ _ (sym u.is_marked.ensures ∙ u.if-is_marked.false) in
+    let l = c.loop-at in
+    let new = bit-none _ _ (sym c.is_marked.ensures ∙ c.if-is_marked.false) in
     let set = c.mark.ensures in
-    let some = unreached-one l.marks-1 l.at _ l.left (omega arith) l.invariant.0.1 (λ e. omega arith) (omega arith) new in
+    let some = unreached-one l.marks l.at _ l.left (omega arith) l.invariant.0.1 (λ e. omega arith) (omega arith) new in
     let link = c.link_of-link.ensures in (
-      (omega arith, unreached-less l.marks-1 _ l.at _ l.left (omega arith) l.invariant.0.1 (λ e. omega arith) (omega arith) new set),
+      (omega arith, unreached-less l.marks _ l.at _ l.left (omega arith) l.invariant.0.1 (λ e. omega arith) (omega arith) new set),
       λ fits reached h k f.
           rw link.0
-          (onward fits _ l.marks-1 _ _ l.left l.lowest _ l.from l.at _ some (λ e. omega arith) (omega arith) (omega arith) new set (rw (c.kind_fits.ensures, link.1) at c.lesser-lowest.ensures) (l.invariant.1 fits reached h k f)),
+          (onward fits _ l.marks _ _ l.left l.lowest _ l.from l.at _ some (λ e. omega arith) (omega arith) (omega arith) new set (rw (c.kind_fits.ensures, link.1) at c.lesser-lowest.ensures) (l.invariant.1 fits reached h k f)),
     )
 
 pub shape_of-marks-then-at-eq0 : goal.shape_of-marks-then-at-eq0
@@ -84,4 +81,4 @@ pub returns-then-is_marked : goal.returns-then-is_marked
 unfolding cells
 returns-then-is_marked c =
     let l = c.loop-at in
-    (l.invariant.0.1, λ fits reached h k f. let o = l.invariant.1 fits reached h k f in arrived fits _ _ _ l.left l.lowest l.from l.at _ _ o (walk-twice _ _ _ l.from l.at (λ e. omega arith) (omega arith) (λ e. bit-some _ _ (sym c.is_marked.ensures ∙ c.if-is_marked.true) (o.marks-1.each l.at ∙ e))) refl)
+    (l.invariant.0.1, λ fits reached h k f. let o = l.invariant.1 fits reached h k f in arrived fits _ _ _ l.left l.lowest l.from l.at _ _ o (walk-twice _ _ _ l.from l.at (λ e. omega arith) (omega arith) (λ e. bit-some _ _ (sym c.is_marked.ensures ∙ c.if-is_marked.true) (o.marks.each l.at ∙ e))) refl)

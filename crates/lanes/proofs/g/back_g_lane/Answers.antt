@@ -7,6 +7,5 @@ use Rattle.lanes.proofs.g.back_g_lane.Goals as goal
 pub returns : goal.returns
 unfolding back_gat
 returns c =
-    let start = c in
-    let a = start.args in
-    rw c.back_g-made.ensures (stepped a.w.now a.m a.i a.j a.k a.l start.requires.0 (omega arith) (omega arith) (omega arith) (omega arith) (omega arith) back_gof)
+    let a = c.args in
+    rw c.back_g-made.ensures (stepped a.w.now a.m a.i a.j a.k a.l c.requires.w_len (omega arith) (omega arith) (omega arith) (omega arith) (omega arith) back_gof)

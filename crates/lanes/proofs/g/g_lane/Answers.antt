@@ -7,6 +7,5 @@ use Rattle.lanes.proofs.g.g_lane.Goals as goal
 pub returns : goal.returns
 unfolding g_at
 returns c =
-    let start = c in
-    let a = start.args in
-    rw c.g-made.ensures (stepped a.w.now a.m a.i a.j a.k a.l start.requires.0 (omega arith) (omega arith) (omega arith) (omega arith) (omega arith) g_of)
+    let a = c.args in
+    rw c.g-made.ensures (stepped a.w.now a.m a.i a.j a.k a.l c.requires.w_len (omega arith) (omega arith) (omega arith) (omega arith) (omega arith) g_of)

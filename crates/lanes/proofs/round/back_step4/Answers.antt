@@ -9,8 +9,7 @@ use Rattle.lanes.proofs.round.back_step4.Goals as goal
 pub back_g4-requires : goal.back_g4-requires
 unfolding groups columns diagonals
 back_g4-requires c =
-    let start = c in
-    (start.requires.0, row_in (get_or groups start.args.k []) (row_at groups groups-rows start.args.k start.requires.1))
+    record { w_len = c.requires.w_len; i_bound = row_in (get_or groups c.args.k []) (row_at groups groups-rows c.args.k c.requires.k_bound) }
 
 pub returns : goal.returns
 unfolding groups columns diagonals back_gat step_at pick put

@@ -1,6 +1,5 @@
 -- The loop's invariant: the first i words are loaded. Assumes nothing.
 use mathlib.Core.Path.{refl}
-use Prim.Native.Nat.{◌-◌}
 use native.Mathlib.Omega.{arith}
 use lib.ListN.{length-drop}
 use Rattle.words.specs.Block.{word_at, block_of}

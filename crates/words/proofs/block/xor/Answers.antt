@@ -1,6 +1,5 @@
 -- The loop's invariant: the first i words are done, the others are those of a. Assumes nothing.
 use mathlib.Core.Path.{refl}
-use Prim.Native.Nat.{◌-◌}
 use native.Mathlib.Omega.{arith}
 use Rattle.words.specs.Block.{xor_at, xor_block}
 use Rattle.words.proofs.Loops.{filling-none, filling-more, filling-done}

@@ -1,0 +1,31 @@
+-- The loop's invariant: the first i bytes are in, the others are as they were. Assumes nothing.
+use mathlib.Core.Path.{◌≡◌, refl, ◌∙◌}
+use mathlib.Core.List.{append-nil}
+use Prim.Native.Nat.{◌-◌}
+use native.Mathlib.Omega.{arith}
+use lib.ListN.{length, length-set}
+use Rattle.words.specs.Sequence.{tab}
+use Rattle.words.specs.Block.{bytes_of, xor_at, xor_bytes}
+use Rattle.words.proofs.Lists.{placed}
+use borrow.Author.Rules.{rules}
+use Rattle.blockplan.proofs.leftover.xor_leftover.Goals as goal
+
+pub loop-i-init : goal.loop-i-init
+unfolding tab
+loop-i-init c = (search rules, (refl, refl))
+
+pub loop-i-preserved : goal.loop-i-preserved
+unfolding xor_at
+loop-i-preserved c =
+    let at = c.loop-i in
+    (omega arith, (simp length-set at.invariant.1.0, placed _ at.i _ at.out _ (omega arith) at.invariant.1.1 refl))
+
+pub returns : goal.returns
+unfolding xor_bytes
+returns c =
+    let at = c.loop-i in
+    let s = c.args.s.now in
+    let e : at.i ≡ length s = omega arith in
+    let stream = c.args.stream in
+    let bytes : c.store.new.out ≡ bytes_of stream = c.store.ensures ∙ append-nil (bytes_of stream) in
+    rw (e, bytes) at at.invariant.1.1

@@ -1,0 +1,12 @@
+-- The two kinds of digit. Assumes nothing.
+use borrow.Author.Tests.{lt-ltb, le-ltb}
+use Rattle.maskwalk_text.specs.Text.{digit}
+use Rattle.maskwalk_text.proofs.lines.digit.Goals as goal
+
+pub returns-then-d-lt10 : goal.returns-then-d-lt10
+unfolding digit
+returns-then-d-lt10 c = simp (lt-ltb _ _ c.if-d-lt10.true)
+
+pub returns-else-d-lt10 : goal.returns-else-d-lt10
+unfolding digit
+returns-else-d-lt10 c = simp (le-ltb _ _ c.if-d-lt10.false)

@@ -1,0 +1,14 @@
+-- Four loads, each from its own offset. Assumes nothing.
+use mathlib.Core.Path.{ap, ◌∙◌}
+use Rattle.words.specs.Block.{block_of}
+use Rattle.words.proofs.Lists.{tail_part}
+use Rattle.blockplan.specs.Plan.{block_at}
+use Rattle.quads.proofs.Laws.{four_are}
+use Rattle.quads.proofs.bytes.load4.Goals as goal
+
+pub returns : goal.returns
+unfolding block_at
+returns c =
+    let s = c.args.s.now in
+    four_are _ _ c.load-a.ensures (c.load-b.ensures ∙ ap block_of (tail_part 128 s)) (c.load-c.ensures ∙ ap block_of (tail_part 256 s))
+    (c.load-d.ensures ∙ ap block_of (tail_part 384 s))

@@ -1,0 +1,26 @@
+-- The loop's invariant: the first i words of each lane are in. Assumes nothing.
+use mathlib.Core.Path.{◌≡◌, refl, sym, ◌∙◌}
+use Prim.Native.Nat.{ℕ, ◌<◌}
+use native.Mathlib.Omega.{arith}
+use lib.ListN.{length}
+use Rattle.words.proofs.Lists.{tab-get_or}
+use Rattle.lanes.proofs.Laws.{in_four}
+use Rattle.quads.specs.Quads.{nth}
+use Rattle.quads.proofs.Laws.{spreading-none, spreading-more, spreading-done}
+use borrow.Author.Rules.{rules}
+use Rattle.quads.proofs.spreading.spread.Goals as goal
+
+pub loop-i-init : goal.loop-i-init
+loop-i-init c = spreading-none _ refl
+
+pub loop-i-preserved : goal.loop-i-preserved
+unfolding nth
+loop-i-preserved c = spreading-more c.loop-i.invariant (omega arith) refl refl refl refl
+
+pub returns : goal.returns
+unfolding nth
+returns c =
+    let at = c.loop-i in
+    let f = c.args.f in
+    let long : (m : ℕ) → m < 4 → length (nth f m) ≡ 16 = in_four (λ m. length (nth f m) ≡ 16) (search rules) (search rules) (search rules) (search rules) in
+    record { long = at.invariant.long; each = λ m h. spreading-done at.invariant (omega arith) m h ∙ sym (tab-get_or (nth f m) 16 (long m h)) }

@@ -1,0 +1,12 @@
+-- One mode or the other. Assumes nothing.
+use borrow.Author.Tests.{eq-eqb, ne_eqb}
+use Rattle.modes.specs.Modes.{mode_of}
+use Rattle.run_sealing.proofs.by_mode.seal.Goals as goal
+
+pub returns-then-mode-eq1 : goal.returns-then-mode-eq1
+unfolding mode_of
+returns-then-mode-eq1 c = rw (eq-eqb _ 1 c.if-mode-eq1.true) c.seal.ensures
+
+pub returns-else-mode-eq1 : goal.returns-else-mode-eq1
+unfolding mode_of
+returns-else-mode-eq1 c = rw (ne_eqb _ 1 c.if-mode-eq1.false) c.seal-else-mode-eq1.ensures

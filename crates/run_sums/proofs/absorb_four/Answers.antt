@@ -1,0 +1,20 @@
+-- Four blocks: loaded, enciphered, summed. Assumes nothing.
+use mathlib.Core.Path.{ap, ◌∙◌}
+use mathlib.Core.Bool.{false}
+use Prim.Native.Nat.{◌+◌}
+use Rattle.masks.specs.Run.{mask_from}
+use Rattle.mem.specs.Mem.{encipher}
+use Rattle.blockplan.specs.Pass.{made_at, under}
+use Rattle.quads.specs.Quads.{from_run}
+use Rattle.quads.proofs.Laws.{sum-is-of}
+use Rattle.run_sums.proofs.absorb_four.Goals as goal
+
+pub returns : goal.returns
+unfolding made_at under from_run
+returns c =
+    let a = c.args in
+    let made = c.encipher4-made in
+    c.sum4.ensures
+    ∙ sum-is-of made.result (made_at (under false a.rounds (from_run a.kind a.run.now a.n)) a.s.now)
+    (record { each = λ m h. made.ensures.each m h ∙ ap (encipher a.rounds (mask_from a.kind a.run.now (a.n + m))) (c.load4-given.ensures.each m h) })
+    a.sum
