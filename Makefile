@@ -12,7 +12,7 @@ TOOL := rust/target/release/calmbaize
 archive := target/staticlib/libcalmbaize.a
 wide := target/x86-64-v3/libcalmbaize.a
 # All that the proofs read; a folder is newer where a file came or went.
-sources := crates.txt $(shell find crates -name must-fail -prune -o -print)
+sources := crates.txt $(shell find $(wildcard crates/*/src crates/*/specs crates/*/proofs))
 # One line where the prover is missing, else nothing.
 no_prover = $(shell . tools/lib.sh; need rt '' 2>&1)
 
@@ -24,12 +24,10 @@ dist: $(archive) $(wide) ## proves, and leaves both archives, the header and pkg
 	@tools/make-dist.sh $(archive) $(wide)
 	@echo "dist: the archive, the header and a pkg-config file are in dist/, the archive for x86-64-v3 in dist/x86-64-v3/"
 
-# The prover proves one crate after the other where it compiles, so what calmbaize stands on is proved
-# first, on all cores. One call of the compiler then makes both archives.
-$(archive) $(wide) &: $(sources) tools/kit.sh tools/compile.sh
+# One call of the compiler makes both.
+$(archive) $(wide) &: $(sources) tools/archives.sh tools/kit.sh tools/compile.sh
 	$(if $(no_prover),$(error $(no_prover)))
-	@tools/prove.sh check $$(sed -n 's/^calmbaize: *//p' crates.txt)
-	@RATTLE_HOME=$$(tools/kit.sh target/kit $(wide)) && export RATTLE_HOME && tools/prove.sh staticlib calmbaize
+	@tools/archives.sh $(archive) $(wide)
 
 tool: dist ## builds the command line tool
 	@. tools/lib.sh; need cargo cargo
@@ -59,7 +57,7 @@ tools: ## sees that what the checks need beside the toolchain is there, or insta
 	@. tools/lib.sh; need cargo cargo && need c++ g++ && need valgrind valgrind && need pkg-config pkg-config
 
 clean: ## removes all that was built
-	rm -rf target dist rust/target
+	rm -rf target dist rust/target crates/*/out
 
 help: ## this list
 	@sed -nE 's/^([a-z]+):[^#]*## (.*)/\1\t\2/p' $(MAKEFILE_LIST) | awk -F '\t' '{ printf "make %-10s %s\n", $$1, $$2 }'

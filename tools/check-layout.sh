@@ -31,6 +31,11 @@ run() {
     fi
 }
 
+# What rt fmt lays out; it has no check of its own.
+rattle_files() {
+    find crates/*/src crates/*/specs crates/*/proofs \( -name '*.rt' -o -name '*.antt' \) -exec rattle fmt --check {} +
+}
+
 clippy() {
     CALMBAIZE_LIB_DIR=$build/stand-in CARGO_TARGET_DIR=$build cargo clippy --offline --quiet \
         --workspace --all-targets -- -D warnings
@@ -39,7 +44,7 @@ clippy() {
 # The wrapper's build asks for an archive, though nothing is linked.
 "$root/tools/stand-in.sh" "$build/stand-in" || exit 2
 cd "$folder" || exit 2
-run "rt fmt --check" "rt version" rt fmt --check
+run "rattle fmt --check" "rattle --version" rattle_files
 run "shellcheck" "shellcheck --version" shellcheck --severity=warning .ci/run tools/*.sh
 cd rust || exit 2
 run "cargo fmt --check" "cargo fmt --version" cargo fmt --all --check

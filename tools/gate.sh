@@ -24,15 +24,20 @@ part() {
     local name=$1 status counts
     shift
     echo "== $name" | stamped
-    "$@" 2>&1 | tee "$log" | stamped
+    "$@" 2>&1 | stamped | tee "$log"
     status=${PIPESTATUS[0]}
-    counts=$(sed -nE 's/^([0-9]+) passed, ([0-9]+) failed$/\1 \2/p; s/^test result: .* ([0-9]+) passed; ([0-9]+) failed;.*/\1 \2/p' "$log" |
+    counts=$(said | sed -nE 's/^([0-9]+) passed, ([0-9]+) failed$/\1 \2/p; s/^test result: .* ([0-9]+) passed; ([0-9]+) failed;.*/\1 \2/p' |
         awk '{ p += $1; f += $2 } END { print p + 0, f + 0 }')
     echo "$counts" >>"$work/counts"
     # A part that fails, or counts nothing, without saying so is one failure.
     if { [ "$status" -ne 0 ] && [ "${counts#* }" -eq 0 ]; } || [ "$counts" = "0 0" ]; then
         fail "$name FAILED (status $status)"
     fi
+}
+
+# What the last part printed, without the times.
+said() {
+    sed -E 's/^\[ *[0-9]+ s\] //' "$log"
 }
 
 # fail TEXT: one failure more.
@@ -59,10 +64,22 @@ end_beside() {
     cat "$work/beside"
 }
 
-# The seconds by the clock of each crate's proofs and of its edits, for the page of benchmarks. Several share a core.
+# The proofs, the must-fail edits, the tests and the program: plain rt ci over the whole checkout. A bad edit, which can't
+# be applied, compiled or read, shows nothing of a promise: rt passes it, and the gate does not.
+proofs() {
+    local ok bad
+    part "proofs, must-fail edits and programs" tools/prove.sh rt ci
+    ok=$(said | grep '^rt: ok') || fail "rt ci did not say 'rt: ok'"
+    bad=$(sed -nE 's/.*, ([0-9]+) bad.*/\1/p' <<<"$ok")
+    [ -z "$bad" ] || fail "must-fail edits that are bad: $bad"
+    # The page of benchmarks tells the time from nothing alone.
+    case $ok in *"every proof and must-fail edit was done in this run"*) write_times ;; esac
+}
+
+# When each crate was proved, and when all was done, in seconds from the gate's start, for the page of benchmarks.
 write_times() {
-    sed -nE 's/^rt: ([a-z_]+) proved \(([0-9]+) s\).*/\1 \2/p; s/^rt: must-fail ([a-z_]+)\/.*; ([0-9]+) s\)$/\1-edits \2/p' "$log" |
-        awk '!($1 in s) { order[++n] = $1 } { s[$1] += $2 } END { for (i = 1; i <= n; i++) print order[i], s[order[i]] }' >target/gate.times
+    mkdir -p target
+    sed -nE 's/^\[ *([0-9]+) s\] rt: ([a-z0-9_]+) proved$/\2 \1/p; s/^\[ *([0-9]+) s\] rt: ok;.*/whole \1/p' "$log" >target/gate.times
 }
 
 # The checks that read files alone.
@@ -108,16 +125,15 @@ both_archives() {
     machine_code baseline dist
     part "comparison of the scalar C" compare dist --library baseline --calls 3000 all permute
     part "cases in the second implementation" compare dist --library reference vectors "$PWD"/rust/compare/cases/*.txt
-    part "maskwalk" compare dist --maskwalk ../target/bin/maskwalk maskwalk
+    part "maskwalk" compare dist --maskwalk ../crates/maskwalk/out/maskwalk maskwalk
     [ -z "$beside" ] || end_beside
 }
 
 need rt '' && make --no-print-directory tools || exit 2
 # A crate waits for those that it stands on, so the proofs leave a core free now and then.
 begin_beside texts
-part "proofs, must-fail edits and programs" tools/prove.sh ci
+proofs
 end_beside
-[ -d target ] && write_times
 part "archives" archives
 if [ -f dist/libcalmbaize.a ] && [ -f dist/x86-64-v3/libcalmbaize.a ]; then
     part "header" tools/check-header.sh dist

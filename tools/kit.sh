@@ -1,49 +1,35 @@
 #!/bin/sh
-# Makes a folder that stands for the prover's kit and differs from it in one thing: its compiler is
-# compile.sh, which gives the kit's own one more options. Prints the folder's path, for RATTLE_HOME.
+# Makes a folder that stands for the compilers of the prover's kit and differs from them in one thing: its
+# clang is compile.sh, which gives the kit's own one more options. For `rattle build --toolchain FOLDER`.
 #
 # usage: kit.sh FOLDER WIDE
 #
-# WIDE is where the compiler leaves the archive for x86-64-v3, processors with AVX2, beside the one for
-# every x86-64 that the prover asks for.
+# FOLDER lies outside the checkout, in which `rt ci` refuses every link. WIDE is where the compiler leaves the
+# archive for x86-64-v3, processors with AVX2, beside the one for every x86-64 that it is asked for.
 set -eu
 
-rt=$(readlink -f "$(command -v rt)")
-home=${RATTLE_HOME:-$(dirname "$rt")/..}
-if [ ! -f "$home/KIT-ID" ]; then
-    echo "kit.sh: no kit at $home" >&2
+tools=$(cd "$(dirname "$0")" && pwd)
+# shellcheck source=tools/lib.sh
+. "$tools/lib.sh"
+toolchain=$(kit)/toolchain
+if [ ! -x "$toolchain/bin/clang" ]; then
+    echo "kit.sh: no compiler at $toolchain/bin/clang" >&2
     exit 2
 fi
-# Where that is such a folder already, the kit behind it.
-home=$(dirname "$(readlink -f "$home/KIT-ID")")
-own=on/$(uname -m)
-bin=$own/toolchain/bin
-if [ ! -x "$home/$bin/clang" ]; then
-    echo "kit.sh: no compiler at $home/$bin/clang" >&2
-    exit 2
-fi
-compile=$(cd "$(dirname "$0")" && pwd)/compile.sh
-mkdir -p "$(dirname "$2")"
 wide=$(cd "$(dirname "$2")" && pwd)/${2##*/}
 
-# linked FOLDER BUT: links what stands in that folder of the kit, but for one name.
+# linked FROM TO BUT: links in TO what stands in FROM, but for one name.
 linked() {
-    mkdir -p "$1"
-    for path in "$home/$1"/*; do
-        [ "${path##*/}" = "$2" ] || ln -s "$path" "$1/"
+    mkdir -p "$2"
+    for path in "$1"/*; do
+        [ "${path##*/}" = "$3" ] || ln -s "$path" "$2/"
     done
 }
 
-rm -rf "$1"
-mkdir -p "$1"
-cd "$1"
-linked . on
-linked "$own" toolchain
-linked "$own/toolchain" bin
-linked "$bin" clang
-cat >"$bin/clang" <<CLANG
+linked "$toolchain" "$1" bin
+linked "$toolchain/bin" "$1/bin" clang
+cat >"$1/bin/clang" <<CLANG
 #!/bin/sh
-exec '$compile' '$home/$bin' '$wide' "\$@"
+exec '$tools/compile.sh' '$toolchain/bin' '$wide' "\$@"
 CLANG
-chmod +x "$bin/clang"
-pwd -P
+chmod +x "$1/bin/clang"

@@ -30,6 +30,11 @@ there() {
     esac
 }
 
+# Prints the folder of the prover's kit.
+kit() {
+    dirname "$(dirname "$(readlink -f "$(command -v rt)")")"
+}
+
 # Prints the version, which stands in rust/Cargo.toml.
 version() {
     sed -n 's/^version = "\(.*\)"$/\1/p' "${root:-.}/rust/Cargo.toml"

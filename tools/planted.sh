@@ -72,7 +72,7 @@ check() {
 copy_root() {
     rm -rf "$work/copy"
     mkdir "$work/copy"
-    (cd "$root" && tar -cf - --exclude=target .ci Makefile c crates crates.txt docs include rust tools) |
+    (cd "$root" && tar -cf - --exclude=target --exclude=out .ci Makefile c crates crates.txt docs include rust tools) |
         tar -xf - -C "$work/copy"
     copy=$work/copy
 }

@@ -2,38 +2,26 @@
 # Runs the prover and shows each crate and edit as it ends, with the time so far. Where it fails, all
 # that it said follows.
 #
-# usage: prove.sh WORDS...
+# usage: prove.sh COMMAND...
 #
-# WORDS go to rt: prove.sh staticlib calmbaize
-#
-# RT_JOBS says how many checks run at a time; six for each core if it is not set.
+# COMMAND is a call of rt or of rattle, in the folder where it is to run: prove.sh rt ci
 set -u
 
 # shellcheck source=tools/lib.sh
 . "$(dirname "$0")/lib.sh"
 need rt '' || exit 2
-# rt starts so many checks, and the next ones when all of them have ended: with one for each core some
-# cores wait for the slowest. A check takes up to 2 GB.
-if [ -z "${RT_JOBS:-}" ]; then
-    RT_JOBS=$((6 * $(nproc)))
-    gigabytes=$(awk '/^MemAvailable:/ { print int($2 / 1024 / 1024) }' /proc/meminfo)
-    [ "$RT_JOBS" -le $((gigabytes / 2)) ] || RT_JOBS=$((gigabytes / 2))
-    [ "$RT_JOBS" -ge 1 ] || RT_JOBS=1
-    export RT_JOBS
-fi
-work=$(mktemp -d)
-trap 'rm -rf "$work"' EXIT
+work_folder
 
 {
-    echo "rt $*"
-    rt "$@" 2>&1
+    echo "${1##*/} $2"
+    "$@" 2>&1
     echo $? > "$work/status"
 } | tee "$work/log" |
-    sed -uE '/^(library|logic[ =]|crate |(\/[^ ]*: )?note:|fn |enum |struct )|\(unchanged since it was last proved\)$/d' |
+    sed -uE '/^(== |library |statements |logic[ =]|crate |axioms |empty contracts: |checked |so far: |(\/[^ ]*: )?note: |fn |enum |struct )/d' |
     with_time
 status=$(cat "$work/status")
 if [ "$status" -ne 0 ]; then
-    echo "all that 'rt $*' said:"
+    echo "all that '${1##*/} $2' said:"
     # Set in, so that no count in it is taken for a result.
     sed 's/^/    /' "$work/log"
 fi

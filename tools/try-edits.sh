@@ -1,6 +1,6 @@
 #!/bin/sh
 # Tries the must-fail edits of one crate, or some of them, and shows the first error of each: it must be
-# a fact that failed. `rt must-fail NAME` tries those of every crate beneath it too.
+# a fact that failed. It begins with what `rt check` kept in the crate's folder.
 #
 # usage: try-edits.sh CRATE [EDIT...]
 set -eu
@@ -8,26 +8,24 @@ set -eu
 root=$(cd "$(dirname "$0")/.." && pwd)
 crate=$1
 shift
-work=$(mktemp -d)
-trap 'rm -rf "$work"' EXIT
-mkdir -p "$root/target"
-cp "$root/crates.txt" "$work/"
-cp -R "$root/crates" "$work/"
-ln -s "$root/target" "$work/target"
-for edit in "$work"/crates/*/must-fail/*.edit; do
-    name=${edit##*/}
-    name=${name%.edit}
-    case $edit in */crates/"$crate"/*) [ $# -gt 0 ] || continue ;; esac
-    case " $* " in *" $name "*) continue ;; esac
-    rm "$edit"
+cd "$root"
+[ $# -gt 0 ] || exec rt must-fail "$crate"
+for name in "$@"; do
+    [ -f "crates/$crate/must-fail/$name.edit" ] || {
+        echo "try-edits: $crate has no edit $name" >&2
+        exit 2
+    }
 done
 
-status=0
-(cd "$work" && "$root/tools/prove.sh" must-fail "$crate") || status=$?
-for log in "$root/target/must-fail/$crate"/*/.log; do
-    name=$(basename "$(dirname "$log")")
-    [ -f "$work/crates/$crate/must-fail/$name.edit" ] || continue
-    echo "== $name"
-    awk '/: error/ { shown = 6 } shown-- > 0 { print substr($0, 1, 400) } shown == 1 { exit }' "$log"
+work=$(mktemp -d)
+trap 'rm -rf "$work"' EXIT
+tar -cf - --exclude=out crates.txt crates | tar -xf - -C "$work"
+cd "$work"
+for edit in "crates/$crate"/must-fail/*.edit; do
+    name=${edit##*/}
+    case " $* " in
+    *" ${name%.edit} "*) ;;
+    *) rm "$edit" ;;
+    esac
 done
-exit "$status"
+rt must-fail "$crate"

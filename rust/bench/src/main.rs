@@ -34,7 +34,7 @@ usage: bench [OPTIONS]
 
 options:
   --docs FOLDER   write BENCHMARKS.md, benchmarks.csv and benchmarks.svg there
-  --gate FILE     the gate's times: a line for each crate, its name and its seconds
+  --gate FILE     the gate's times: a line for each crate, and one for the whole, its name and its seconds
   --batches N     batches of calls for each figure [500]; 0 makes each call and measures nothing
 
 The status is 1 where a timed call does not answer what it has to, or where a ratio is above

@@ -14,7 +14,7 @@ pub struct Setup {
     pub gigahertz: f64,
     pub batches: usize,
     pub versions: Versions,
-    /// What the gate did for each crate, and its seconds.
+    /// When the gate had proved each crate, and when the prover was done, in seconds from its start.
     pub gate: Vec<(String, u64)>,
 }
 
@@ -82,16 +82,11 @@ fn kits_clang() -> Option<PathBuf> {
     let mut programs = env::split_paths(&path).map(|folder| folder.join("rt"));
     let rt = programs.find(|program| program.is_file())?;
     let rt = fs::canonicalize(rt).ok()?;
-    let kit = env::var_os("RATTLE_HOME").map(PathBuf::from);
-    let kit = kit.or_else(|| Some(rt.parent()?.parent()?.into()))?;
-    Some(
-        kit.join("on")
-            .join(env::consts::ARCH)
-            .join("toolchain/bin/clang"),
-    )
+    let kit = rt.parent()?.parent()?;
+    Some(kit.join("toolchain/bin/clang"))
 }
 
-/// The gate's times: a line for each, its name and its seconds.
+/// The gate's times: a line for each crate, and one for the whole, its name and its seconds.
 pub fn gate_times(path: &str) -> Result<Vec<(String, u64)>, String> {
     let text = fs::read_to_string(path).map_err(|error| format!("{path}: {error}"))?;
     let time = |line: &str| {
