@@ -1,6 +1,6 @@
 -- No fault is the form, and the form is no fault. Assumes nothing.
 use mathlib.Core.Path.{◌≡◌, refl, sym, ap, ◌∙◌}
-use mathlib.Core.Bool.{Bool, true, false, cond, not, ◌||◌}
+use mathlib.Core.Bool.{Bool, true, false, cond, ◌||◌}
 use mathlib.Core.List.{List, [], ◌∷◌, ◌++◌, append_assoc, append-nil}
 use Prim.Native.Nat.{ℕ, zero, suc, ◌+◌, ◌-◌, ◌≤◌, ◌<◌}
 use native.Mathlib.Omega.{arith}
@@ -11,7 +11,7 @@ use borrow.Author.Tests.{eq-eqb, ne_eqb, le-ltb, ltb-false, not-false, not-true,
 use Rattle.cells.specs.declared.Stop.{Stop}
 use Rattle.cells.specs.declared.Stop.TheVariants.{End, Broken}
 use Rattle.cells.specs.declared.Fault.{Fault}
-use Rattle.cells.specs.declared.Fault.TheVariants.{Sound, Length, Index, Kind}
+use Rattle.cells.specs.declared.Fault.TheVariants.{Sound, Length, Kind}
 use Rattle.cells.specs.Chains.{count, is_in, first_from}
 use Rattle.cells.specs.Cells.{cells, first_sale, first_free, next_of, kind_of, kind_fits, length_fits, formed}
 use Rattle.cells.specs.Faults.{walk_of, sales_walk, free_walk, unfit, length_or, broken_or, kind_fault, form_fault, fault_of}

@@ -1,21 +1,20 @@
 -- The first fault is none exactly where the form is as said, and its cell is a cell of the store. Assumes nothing.
-use mathlib.Core.Path.{◌≡◌, refl, sym, ap, ◌∙◌}
+use mathlib.Core.Path.{◌≡◌, refl}
 use mathlib.Core.Bool.{Bool, true, false, cond}
 use mathlib.Core.List.{List, []}
-use Prim.Native.Nat.{ℕ, ◌+◌, ◌-◌, ◌≤◌, ◌<◌, ◌^◌}
+use Prim.Native.Nat.{ℕ, ◌-◌, ◌<◌, ◌^◌}
 use native.Mathlib.Omega.{arith}
 use lib.Dec.{ltb, lit<}
 use borrow.Author.Tests.{ltb-true}
 use Rattle.answers.specs.declared.Check.{Check}
-use Rattle.answers.specs.declared.Check.TheVariants.{Clear, Fails}
+use Rattle.answers.specs.declared.Check.TheVariants.{Clear}
 use Rattle.answers.proofs.Values.{place_of, after}
 use Rattle.cells.specs.declared.Stop.{Stop}
 use Rattle.cells.specs.declared.Stop.TheVariants.{End, Broken}
 use Rattle.cells.specs.declared.Fault.{Fault}
 use Rattle.cells.specs.declared.Fault.TheVariants.{Sound, Length, Index, Kind}
-use Rattle.cells.specs.Chains.{first_from}
 use Rattle.cells.specs.Cells.{cells, first_sale, first_free, length_fits, formed}
-use Rattle.cells.specs.Faults.{walk_of, sales_walk, free_walk, unfit, length_or, broken_or, kind_fault, form_fault, fault_of, fault_check}
+use Rattle.cells.specs.Faults.{sales_walk, free_walk, unfit, length_or, broken_or, kind_fault, form_fault, fault_of, fault_check}
 use Rattle.cells.specs.FirstFault.{FirstFault}
 use Rattle.cells.proofs.Form.{long_of}
 use Rattle.cells.proofs.Counts.{first-low}

@@ -5,10 +5,10 @@ use mathlib.Core.List.{List, [], ◌∷◌, ◌++◌}
 use Prim.Native.Nat.{ℕ, zero, suc, ◌+◌, ◌≤◌, ◌<◌}
 use native.Mathlib.Omega.{arith}
 use native.Mathlib.Decide.{dec_lt, ℕ_discrete}
-use lib.Dec.{eqb, ltb}
+use lib.Dec.{ltb}
 use lib.ListN.{length, length-append}
 use borrow.Author.Tests.{eq-eqb, ne_eqb, le-leb, lt-leb, lt-ltb, le-ltb}
-use Rattle.cells.specs.Chains.{count, is_in}
+use Rattle.cells.specs.Chains.{count}
 use Rattle.cells.specs.Cells.{cells, next_of}
 use Rattle.cells.specs.Faults.{walk_of}
 use Rattle.cells.specs.declared.Stop.{Stop}

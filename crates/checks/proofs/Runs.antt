@@ -10,7 +10,7 @@ use Rattle.answers.specs.declared.Check.{Check}
 use Rattle.answers.specs.declared.Check.TheVariants.{Clear, Fails}
 use Rattle.answers.proofs.Values.{place_of, after, line_after, after-clear, room-clear}
 use Rattle.checks.specs.Checks.{settings, seal_inputs, open_inputs, seal_checks, open_checks, larger, run_length, seal_run_checks, open_run_checks}
-use Rattle.checks.proofs.Clears.{seal-after, open_after, seal-clear, open-clear, room-place, seal-place, open-place}
+use Rattle.checks.proofs.Clears.{room-place, seal-place, open-place}
 
 -- the run reaches over both
 larger-both : (a b : ℕ) (t : Bool) → ltb a b ≡ t → (a ≤ cond t b a) × (b ≤ cond t b a)

@@ -72,7 +72,7 @@ mro-listed true = ((12, lit< tt, refl), ((13, lit< tt, refl), ((14, lit< tt, ref
 mro-listed false = ((4, lit< tt, refl), ((5, lit< tt, refl), ((6, lit< tt, refl), ((7, lit< tt, refl), tt))))
 
 all_listed : (old : Bool) (mode rounds : ℕ) → is_mode mode ≡ true → is_rounds rounds ≡ true → Listed old mode rounds
-unfolding is_rounds
+unfolding is_rounds round_counts
 all_listed old mode rounds hm hr =
     one_of (λ (m : ℕ). Listed old m rounds) (1 ∷ 2 ∷ [])
     (one_of (λ (r : ℕ). Listed old 1 r) round_counts (opp-listed old) rounds hr, (one_of (λ (r : ℕ). Listed old 2 r) round_counts (mro-listed old) rounds hr, tt))

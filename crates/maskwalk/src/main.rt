@@ -4,7 +4,7 @@
 #![tactic(auto)]
 
 use maskwalk_text::{HELD, Scan, TEXT, feed, finish, first, is_open};
-use std::io::{Read, Write};
+use std::io::Read;
 
 // The most bytes that one read asks for.
 const PART: usize = 65536;

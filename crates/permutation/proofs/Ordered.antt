@@ -1,5 +1,5 @@
 -- G over groups of which no two have a word in common gives the same block in any order. Assumes nothing.
-use Rattle.std.proofs.Common.{◌≡◌, ℕ, ◌<◌, Bool, true, not, ◌&&◌, eqb, List, [], ◌∷◌, ◌++◌, get_or, sym, refl, ap, ◌∙◌, eq-eqb}
+use Rattle.std.proofs.Common.{◌≡◌, ℕ, Bool, true, not, ◌&&◌, eqb, List, [], ◌∷◌, ◌++◌, get_or, sym, refl, ap, ◌∙◌, eq-eqb}
 use mathlib.Core.Bool.{false≢true}
 use Rattle.words.proofs.Truth.{both, all_below, carried}
 use Rattle.permutation.specs.Permutation.{g_of, g_at, over, columns, diagonals, groups, round}

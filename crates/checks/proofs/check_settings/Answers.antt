@@ -1,4 +1,5 @@
 -- The first ground that holds decides. Assumes nothing.
+use native.Mathlib.Omega.{arith}
 use borrow.Author.Tests.{eq-eqb, ne_eqb, lt-ltb, le-ltb}
 use Rattle.answers.specs.Answers.{line_at, line}
 use Rattle.checks.specs.Checks.{settings}
@@ -19,8 +20,7 @@ returns-then-of-ne32 c =
 
 pub returns-then-of-ne16 : goal.returns-then-of-ne16
 unfolding settings line line_at
-returns-then-of-ne16 c =
-    simp (← c.is_mode.ensures, c.if-not-is_mode.false, ← c.is_rounds.ensures, c.if-not-is_rounds.false, eq-eqb _ _ c.if-of-ne32.false, ne_eqb _ _ c.if-of-ne16.true)
+returns-then-of-ne16 c = grind arith
 
 pub returns-then-of-gt4096 : goal.returns-then-of-gt4096
 unfolding settings line line_at

@@ -1,6 +1,6 @@
 -- The loop's invariant: the first i bytes are masked, the others are as they were. Assumes nothing.
 use mathlib.Core.Path.{◌≡◌, refl, ap, ◌∙◌}
-use Prim.Native.Nat.{ℕ, ◌-◌}
+use Prim.Native.Nat.{ℕ}
 use native.Mathlib.Omega.{arith}
 use lib.ListN.{get_or, length-set}
 use mathlib.Core.Bool.{cond}

@@ -1,5 +1,4 @@
 -- The loop's invariant: the bytes of the first i words are in, the others are as they were. Assumes nothing.
-use Prim.Native.Nat.{◌-◌}
 use native.Mathlib.Omega.{arith}
 use lib.ListN.{length-drop}
 use Rattle.words.specs.Block.{word_bytes}

@@ -1,6 +1,6 @@
 -- The loop's invariant: the bytes read as the first i of the leftover, zeros after them. Assumes nothing.
 use mathlib.Core.Path.{◌≡◌, refl, ◌∙◌}
-use Prim.Native.Nat.{ℕ, ◌-◌, ◌<◌}
+use Prim.Native.Nat.{ℕ, ◌<◌}
 use native.Mathlib.Omega.{arith}
 use lib.ListN.{length, get_or, take, length-set}
 use native.Mathlib.Numerals.{add-one}

@@ -1,7 +1,7 @@
 -- The loop's invariant: the first i bytes are in, the others are as they were. Assumes nothing.
 use mathlib.Core.Path.{◌≡◌}
 use mathlib.Core.List.{◌++◌}
-use Prim.Native.Nat.{◌+◌, ◌-◌, ◌≤◌}
+use Prim.Native.Nat.{◌-◌, ◌≤◌}
 use lib.ListN.{length, drop}
 use Rattle.words.specs.Sequence.{tab}
 use Rattle.words.specs.Block.{xor_at}

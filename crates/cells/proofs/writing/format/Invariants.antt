@@ -2,7 +2,6 @@ use mathlib.Core.Path.{◌≡◌}
 use Prim.Native.Nat.{◌+◌, ◌-◌, ◌*◌, ◌≤◌}
 use lib.ListN.{length, take}
 use Rattle.words.specs.Sequence.{cat}
-use Rattle.cells.specs.Cells.{cells}
 use Rattle.cells.specs.Changes.{fresh_cell}
 use Rattle.cells.proofs.writing.format.Given as goal
 

@@ -1,7 +1,7 @@
 -- One block more in each turn. Assumes nothing.
 use mathlib.Core.Path.{◌≡◌, refl}
 use mathlib.Core.Bool.{true}
-use Prim.Native.Nat.{◌/◌, ◌*◌, ◌-◌}
+use Prim.Native.Nat.{◌/◌, ◌*◌}
 use native.Mathlib.Omega.{arith}
 use lib.ListN.{length}
 use Rattle.words.specs.Sequence.{times}

@@ -1,6 +1,6 @@
 -- One block more in each turn, under both starts. Assumes nothing.
 use mathlib.Core.Path.{◌≡◌, refl}
-use Prim.Native.Nat.{◌/◌, ◌*◌, ◌-◌}
+use Prim.Native.Nat.{◌/◌, ◌*◌}
 use native.Mathlib.Omega.{arith}
 use lib.ListN.{length}
 use Rattle.words.specs.Sequence.{fold, times}

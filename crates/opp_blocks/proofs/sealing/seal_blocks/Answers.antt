@@ -1,7 +1,7 @@
 -- Two blocks more in each turn, and one at the end where their number is odd. Assumes nothing.
 use mathlib.Core.Path.{◌≡◌, refl}
 use mathlib.Core.Bool.{false}
-use Prim.Native.Nat.{◌/◌, ◌*◌, ◌+◌, ◌-◌}
+use Prim.Native.Nat.{◌/◌, ◌*◌, ◌+◌}
 use native.Mathlib.Omega.{arith}
 use lib.ListN.{length}
 use lib.Seq.{drop-drop}

@@ -1,5 +1,5 @@
 -- The loop's invariant: r is the block with the rounds so far undone. Assumes nothing.
-use Rattle.std.proofs.Common.{◌-◌, arith}
+use Rattle.std.proofs.Common.{arith}
 use Rattle.words.proofs.Loops.{taking-none, taking-more, taking-done}
 use Rattle.permutation.specs.Permutation.{back_perm}
 use Rattle.permutation.proofs.permute.back_permute.Goals as goal

@@ -1,5 +1,5 @@
 -- The loop's invariant: r is the block after the rounds so far. Assumes nothing.
-use Rattle.std.proofs.Common.{◌-◌, arith}
+use Rattle.std.proofs.Common.{arith}
 use Rattle.words.proofs.Loops.{taking-none, taking-more, taking-done}
 use Rattle.permutation.specs.Permutation.{perm}
 use Rattle.permutation.proofs.permute.permute.Goals as goal

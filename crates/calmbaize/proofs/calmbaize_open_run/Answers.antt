@@ -1,0 +1,15 @@
+-- The call's answer, put into one number. Assumes nothing.
+use mathlib.Core.Path.{ap}
+use Prim.Native.Nat.{◌^◌}
+use Rattle.answers.specs.Answers.{coded}
+use Rattle.answers.proofs.Values.{answered-lt}
+use Rattle.run_sealing.proofs.Answered.{open-run-small}
+use Rattle.calmbaize.proofs.calmbaize_open_run.Goals as goal
+
+pub code-requires : goal.code-requires
+code-requires c =
+    answered-lt (2 ^ 32) c.«open».ensures (open-run-small _ _ _ _ _ _ _ _)
+
+pub returns : goal.returns
+unfolding coded
+returns c = rw c.code.ensures (ap coded c.«open».ensures)

@@ -1,0 +1,14 @@
+-- The call's answer, put into one number. Assumes nothing.
+use mathlib.Core.Path.{ap}
+use Prim.Native.Nat.{◌^◌}
+use Rattle.answers.specs.Answers.{coded}
+use Rattle.answers.proofs.Values.{answered-lt}
+use Rattle.walking.proofs.Answered.{walk-small}
+use Rattle.calmbaize.proofs.calmbaize_walk.Goals as goal
+
+pub code-requires : goal.code-requires
+code-requires c = answered-lt (2 ^ 32) c.walk.ensures (walk-small _ _ _)
+
+pub returns : goal.returns
+unfolding coded
+returns c = rw c.code.ensures (ap coded c.walk.ensures)
