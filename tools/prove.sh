@@ -17,7 +17,7 @@ work_folder
     "$@" 2>&1
     echo $? > "$work/status"
 } | tee "$work/log" |
-    sed -uE '/^(== |library |statements |logic[ =]|crate |axioms |empty contracts: |checked |so far: |(\/[^ ]*: )?note: |fn |enum |struct )/d' |
+    sed -uE '/^(== |library |statements |logic[ =]|crate |axioms |empty contracts: |checked |so far: |(\/[^ ]*: )?note: |fn |enum |struct |rt: rt check --fix-imports )/d' |
     with_time
 status=$(cat "$work/status")
 if [ "$status" -ne 0 ]; then
