@@ -28,7 +28,7 @@ def snake(part):
     if not part[:1].islower() or not re.search("[A-Z]", part):
         return part
     part = part.replace("getD", "get_or")
-    return re.sub(r"([a-z0-9])([A-Z])", r"\1_\2", part).lower()
+    return re.sub(r"(?<=[a-z0-9])(?=[A-Z])|(?<=[A-Z])(?=[A-Z][a-z])", "_", part).lower()
 
 
 def turned(word):

@@ -15,13 +15,12 @@ use Rattle.answers.specs.declared.Ground.{Ground}
 use Rattle.answers.specs.declared.Check.{Check}
 use Rattle.answers.specs.declared.Check.TheVariants.{Clear, Fails}
 use Rattle.answers.specs.declared.Answer.TheVariants.{Refused as AnswerRefused}
-use Rattle.answers.proofs.Values.{after, passed_on}
-use Rattle.mem.specs.Mem.{start_of, old_start_of, start_for}
+use Rattle.answers.proofs.Values.{after}
+use Rattle.mem.specs.Mem.{start_of, old_start_of}
 use Rattle.mem.proofs.Laws.{start-block, old-start-block}
 use Rattle.blockplan.specs.Parcel.{message_of}
 use Rattle.checks.specs.Checks.{is_mode, is_one_of, round_counts, is_rounds, open_inputs, open_checks}
 use Rattle.checks.proofs.Clears.{open_after, inputs-settings, other-inputs}
-use Rattle.modes.specs.Modes.{mode_of}
 use Rattle.sealing.specs.Sealing.{open_from, open_call, open_old_call}
 use Rattle.diagnosing.specs.declared.Setting.{Setting}
 use Rattle.diagnosing.specs.declared.Differs.{Differs}

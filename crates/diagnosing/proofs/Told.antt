@@ -1,5 +1,5 @@
 -- The numbers of the diagnoses: each value is below 256, and no two diagnoses of the call have the same number. Assumes nothing.
-use mathlib.Core.Path.{◌≡◌, refl, sym, ap, ap₂, ◌∙◌}
+use mathlib.Core.Path.{◌≡◌, refl, sym, ap, ◌∙◌}
 use mathlib.Core.Bool.{Bool, true, false, cond}
 use mathlib.Core.Logic.{◌≢◌}
 use mathlib.Core.List.{List}
@@ -15,7 +15,6 @@ use Rattle.answers.specs.declared.Answer.{Answer}
 use Rattle.answers.specs.declared.Answer.TheVariants.{Done, Refused as AnswerRefused}
 use Rattle.answers.proofs.Numbers.{told-apart}
 use Rattle.answers.proofs.Values.{place_of}
-use Rattle.checks.specs.Checks.{open_inputs}
 use Rattle.checks.proofs.Clears.{parcel-place}
 use Rattle.diagnosing.specs.declared.Setting.{Setting}
 use Rattle.diagnosing.specs.declared.Differs.{Differs}

@@ -1,6 +1,6 @@
 // G and G undone, in four lanes.
 ghost use Rattle.std.specs.Prelude.{◌≡◌, [], ◌∷◌, length, ◌<◌};
-ghost use Rattle.permutation.specs.Permutation.{g_at, back_gat};
+ghost use Rattle.permutation.specs.Permutation.{g_at, back_g_at};
 ghost use Rattle.lanes.specs.Lanes.{OneLane, AllLanes};
 
 use permutation::g::{Quad, back_g, g};
@@ -39,7 +39,7 @@ pub fn g4(w: &mut [u64; 64], i: usize, j: usize, k: usize, l: usize)
 fn back_g_lane(w: &mut [u64; 64], i: usize, j: usize, k: usize, l: usize, m: usize)
     requires w_len { length w.old ≡ 64 }
     requires i_bound { (i < 16) × ((j < 16) × ((k < 16) × ((l < 16) × (m < 4)))) }
-    ensures { OneLane m (back_gat (i ∷ j ∷ k ∷ l ∷ [])) w.old w.new }
+    ensures { OneLane m (back_g_at (i ∷ j ∷ k ∷ l ∷ [])) w.old w.new }
 {
     let made = back_g(Quad {
         a: w[4 * i + m],
@@ -57,7 +57,7 @@ fn back_g_lane(w: &mut [u64; 64], i: usize, j: usize, k: usize, l: usize, m: usi
 pub fn back_g4(w: &mut [u64; 64], i: usize, j: usize, k: usize, l: usize)
     requires w_len { length w.old ≡ 64 }
     requires i_bound { (i < 16) × ((j < 16) × ((k < 16) × (l < 16))) }
-    ensures { AllLanes (back_gat (i ∷ j ∷ k ∷ l ∷ [])) w.old w.new }
+    ensures { AllLanes (back_g_at (i ∷ j ∷ k ∷ l ∷ [])) w.old w.new }
 {
     back_g_lane(w, i, j, k, l, 0);
     back_g_lane(w, i, j, k, l, 1);

@@ -1,6 +1,6 @@
 // A round and a round undone, in four lanes, by the permutation's own table of groups.
 ghost use Rattle.std.specs.Prelude.{◌≡◌, [], ◌<◌, length, get_or};
-ghost use Rattle.permutation.specs.Permutation.{groups, g_at, back_gat, round, back_round};
+ghost use Rattle.permutation.specs.Permutation.{groups, g_at, back_g_at, round, back_round};
 ghost use Rattle.lanes.specs.Lanes.{AllLanes};
 
 use crate::g::{back_g4, g4};
@@ -20,7 +20,7 @@ fn step4(w: &mut [u64; 64], k: usize)
 fn back_step4(w: &mut [u64; 64], k: usize)
     requires w_len { length w.old ≡ 64 }
     requires k_bound { k < 8 }
-    ensures { AllLanes (back_gat (get_or groups k [])) w.old w.new }
+    ensures { AllLanes (back_g_at (get_or groups k [])) w.old w.new }
 {
     let q = GROUPS[k];
     back_g4(w, q[0], q[1], q[2], q[3]);

@@ -10,7 +10,7 @@ use Rattle.words.proofs.Blocks.{xor-block}
 use Rattle.mem.specs.Mem.{encipher}
 use Rattle.blockplan.specs.Plan.{whole, left, block_at, xor_over, ciphered}
 use Rattle.blockplan.specs.Parcel.{message_of, cipher_part, tag_part}
-use Rattle.blockplan.specs.Pass.{made_at, under, stepping}
+use Rattle.blockplan.specs.Pass.{made_at, under}
 use Rattle.blockplan.proofs.Sums.{xor_over-ext}
 use Rattle.blockplan.proofs.Leftovers.{no-left, some_left, block-block_at}
 use Rattle.blockplan.proofs.Ciphered.{whole-ciphered, has_left-ciphered, left-ciphered, block_at-ciphered}

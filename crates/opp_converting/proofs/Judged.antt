@@ -2,8 +2,8 @@
 use mathlib.Core.Path.{◌≡◌, refl}
 use mathlib.Core.Bool.{true, cond}
 use mathlib.Core.List.{List, [], ◌++◌}
-use Prim.Native.Nat.{ℕ, ◌-◌, ◌*◌}
-use lib.ListN.{length, take, drop}
+use Prim.Native.Nat.{ℕ, ◌*◌}
+use lib.ListN.{length, drop}
 use Rattle.words.specs.Sequence.{cat}
 use Rattle.words.specs.Block.{Block, Bytes, bytes_of, xor_block, xor_bytes, zero_block}
 use Rattle.masks.specs.Steps.{beta, gamma}

@@ -7,7 +7,7 @@ use Rattle.words.proofs.Xor.{xor-cancel-r}
 use Rattle.words.proofs.Words.{add_w-lt, sub_w-lt, sub_w-add_w, add_w-sub_w, rot_r-lt, rot_r-back}
 use Rattle.words.proofs.Maps.{undo-then}
 use Rattle.permutation.specs.declared.g.Quad.{Quad}
-use Rattle.permutation.specs.Permutation.{g_of, back_gof}
+use Rattle.permutation.specs.Permutation.{g_of, back_g_of}
 
 -- four words of 64 bits
 pub record Words (q : Quad) : Type 0 where
@@ -107,6 +107,6 @@ module _ (m n : ℕ) (m-lt : m < 64) (n-lt : n < 64) where
   half-undo : Undo Words (half m n) (back_half m n)
   half-undo = record { forth-keeps = half-words; back-keeps = back_half-words; back-forth = back_half-half; forth-back = half-back_half }
 
-pub g-undo : Undo Words g_of back_gof
-unfolding g_of back_gof half back_half
+pub g-undo : Undo Words g_of back_g_of
+unfolding g_of back_g_of half back_half
 g-undo = undo-then (half-undo 32 24 (lit< tt) (lit< tt)) (half-undo 16 63 (lit< tt) (lit< tt))

@@ -4,15 +4,15 @@ use Rattle.words.specs.Block.{Block}
 use Rattle.words.specs.Undo.{Undo}
 use Rattle.words.proofs.Maps.{undo-same, undo-then}
 use Rattle.words.proofs.Times.{undo-times}
-use Rattle.permutation.specs.Permutation.{g_at, back_gat, over, back_over, groups, round, back_round, perm, back_perm}
+use Rattle.permutation.specs.Permutation.{g_at, back_g_at, over, back_over, groups, round, back_round, perm, back_perm}
 use Rattle.permutation.specs.Undo.{BackUndoes}
 use Rattle.permutation.proofs.Lines.{g-undo}
 use Rattle.permutation.proofs.Places.{Row, undo-at}
 use Rattle.permutation.proofs.Groups.{Each, groups-rows}
 
 -- G over one group
-pub g_at-undo : (row : List ℕ) → Row row → Undo Block (g_at row) (back_gat row)
-unfolding g_at back_gat
+pub g_at-undo : (row : List ℕ) → Row row → Undo Block (g_at row) (back_g_at row)
+unfolding g_at back_g_at
 g_at-undo row r = undo-at g-undo row r
 
 -- G over groups in turn

@@ -19,8 +19,8 @@ g_of q =
     record { a = a; b = b; c = c; d = d }
 
 -- the step G undone: the eight lines undone, the last one first
-unfoldable pub back_gof : Quad → Quad
-back_gof q =
+unfoldable pub back_g_of : Quad → Quad
+back_g_of q =
     let record { a = a; b = b; c = c; d = d } = q in
     let b = bit_xor (rot_l 63 b) c in
     let c = sub_w c d in
@@ -55,8 +55,8 @@ unfoldable pub g_at : List ℕ → List ℕ → List ℕ
 g_at row s = step_at g_of row s
 
 -- G over one group, undone
-unfoldable pub back_gat : List ℕ → List ℕ → List ℕ
-back_gat row s = step_at back_gof row s
+unfoldable pub back_g_at : List ℕ → List ℕ → List ℕ
+back_g_at row s = step_at back_g_of row s
 
 -- G over each group in turn
 unfoldable pub over : List (List ℕ) → List ℕ → List ℕ
@@ -66,7 +66,7 @@ over (row ∷ rows) s = over rows (g_at row s)
 -- the same undone, the last group first
 unfoldable pub back_over : List (List ℕ) → List ℕ → List ℕ
 back_over [] s = s
-back_over (row ∷ rows) s = back_gat row (back_over rows s)
+back_over (row ∷ rows) s = back_g_at row (back_over rows s)
 
 -- the four column groups of word numbers, as section 8 prints them
 unfoldable pub columns : List (List ℕ)

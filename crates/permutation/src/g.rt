@@ -1,7 +1,7 @@
 // The step G on four words, and G undone; and each at four words of a block.
 ghost use Rattle.std.specs.Prelude.{◌≡◌, ◌<◌, [], ◌∷◌};
 ghost use Rattle.words.specs.Word.{add_w, sub_w};
-ghost use Rattle.permutation.specs.Permutation.{g_of, back_gof, g_at, back_gat};
+ghost use Rattle.permutation.specs.Permutation.{g_of, back_g_of, g_at, back_g_at};
 
 use words::word::{rotate_left, rotate_right};
 
@@ -49,7 +49,7 @@ pub fn g(q: Quad) -> Quad
 
 // G undone: the eight lines undone, the last one first.
 pub fn back_g(q: Quad) -> Quad
-    ensures { result ≡ back_gof q }
+    ensures { result ≡ back_g_of q }
 {
     let mut a = q.a;
     let mut b = q.b;
@@ -88,7 +88,7 @@ pub fn g_at(s: [u64; 16], i: usize, j: usize, k: usize, l: usize) -> [u64; 16]
 // G undone on words i, j, k, l of a block.
 pub fn back_g_at(s: [u64; 16], i: usize, j: usize, k: usize, l: usize) -> [u64; 16]
     requires { (i < 16) × ((j < 16) × ((k < 16) × (l < 16))) }
-    ensures { result ≡ back_gat (i ∷ j ∷ k ∷ l ∷ []) s }
+    ensures { result ≡ back_g_at (i ∷ j ∷ k ∷ l ∷ []) s }
 {
     let made = back_g(Quad {
         a: s[i],

@@ -1,6 +1,6 @@
 // A round, and a round undone.
 ghost use Rattle.std.specs.Prelude.{◌≡◌, ◌<◌, [], slice_index_or};
-ghost use Rattle.permutation.specs.Permutation.{groups, g_at, back_gat, round as round_of, back_round};
+ghost use Rattle.permutation.specs.Permutation.{groups, g_at, back_g_at, round as round_of, back_round};
 
 use crate::g::{back_g_at, g_at};
 
@@ -28,7 +28,7 @@ fn step(s: [u64; 16], k: usize) -> [u64; 16]
 // G over group k, undone.
 fn back_step(s: [u64; 16], k: usize) -> [u64; 16]
     requires { k < 8 }
-    ensures { result ≡ back_gat (slice_index_or groups k []) s }
+    ensures { result ≡ back_g_at (slice_index_or groups k []) s }
 {
     let q = GROUPS[k];
     back_g_at(s, q[0], q[1], q[2], q[3])

@@ -2,7 +2,6 @@
 use borrow.Author.Rules.{rules}
 use mathlib.Core.Path.{ap}
 use Prim.Native.Nat.{◌^◌}
-use native.Mathlib.Omega.{arith}
 use Rattle.answers.specs.Answers.{coded}
 use Rattle.answers.proofs.Values.{answered-lt}
 use Rattle.store.proofs.Small.{cancel-small}

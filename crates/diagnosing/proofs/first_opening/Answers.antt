@@ -1,7 +1,5 @@
 -- The loop's invariant: no setting before n opens the parcel, and the last four have left their starts. Assumes nothing.
 use mathlib.Core.Path.{◌≡◌, refl, sym, ap, ◌∙◌}
-use mathlib.Core.Bool.{false}
-use Prim.Native.Nat.{◌-◌}
 use native.Mathlib.Decide.{ℕ_discrete}
 use native.Mathlib.Omega.{arith}
 use Rattle.diagnosing.specs.Diagnosing.{sixteen, nth, start_under}

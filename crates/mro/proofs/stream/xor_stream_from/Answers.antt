@@ -1,6 +1,6 @@
 -- The loop's invariant: the first i blocks are in, the others are as they were. Assumes nothing.
 use mathlib.Core.Path.{refl}
-use Prim.Native.Nat.{◌*◌, ◌-◌, ◌/◌}
+use Prim.Native.Nat.{◌*◌, ◌/◌}
 use native.Mathlib.Omega.{arith}
 use lib.ListN.{length, length-drop}
 use Rattle.words.proofs.Lists.{tail_part}

@@ -2,7 +2,7 @@
 use mathlib.Core.Path.{◌≡◌}
 use Prim.Native.Nat.{◌-◌, ◌/◌, ◌≤◌}
 use lib.ListN.{length}
-use Rattle.blockplan.specs.Plan.{whole, tag_bytes, xor_over}
+use Rattle.blockplan.specs.Plan.{tag_bytes, xor_over}
 use Rattle.blockplan.specs.Pass.{made_at, stepping}
 use Rattle.mro.proofs.Streams.{stream_at}
 use Rattle.mro_converting.proofs.Judged.{taken_at}

@@ -3,7 +3,7 @@ use mathlib.Core.Path.{◌≡◌}
 use Prim.Native.Nat.{◌-◌, ◌/◌}
 use lib.ListN.{length}
 use Rattle.words.proofs.Loops.{Writing}
-use Rattle.blockplan.specs.Plan.{whole, tag_bytes}
+use Rattle.blockplan.specs.Plan.{tag_bytes}
 use Rattle.blockplan.specs.Pass.{bytes_at}
 use Rattle.mro.proofs.Streams.{stream_at, xored}
 use Rattle.mro_converting.proofs.Streams.{both_at}

@@ -1,6 +1,5 @@
 -- The low bytes one by one: those written, and then those of the rest, are the number's. Assumes nothing.
 use mathlib.Core.Path.{refl}
-use Prim.Native.Nat.{◌-◌}
 use native.Mathlib.Omega.{arith}
 use Rattle.sales.proofs.Puts.{lowering-none, lowering-more, lowering-done}
 use Rattle.sales.proofs.fields.put_low.Goals as goal
