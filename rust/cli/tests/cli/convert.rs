@@ -2,14 +2,14 @@
 
 use crate::files::{make_pipe, mode, names, set_mode, FILES_OF_ONE_BLOCK, NO_FILES};
 use crate::{as_of_0_3_0, fails, folder, run_after, sealing, succeeds};
-use crate::{KEY, NONCE, OF_0_3_0};
+use crate::{Link, KEY, NONCE, OF_0_3_0};
 use calmbaize::Rounds;
 use reference::{seal_under, Start, MRO, OPP};
 use std::collections::BTreeMap;
 use std::ffi::{OsStr, OsString};
 use std::fs::{self, File};
 use std::os::unix::ffi::OsStrExt;
-use std::os::unix::fs::{chown, symlink, MetadataExt};
+use std::os::unix::fs::{chown, MetadataExt};
 use std::path::{Path, PathBuf};
 use std::time::{Duration, SystemTime};
 
@@ -254,7 +254,7 @@ fn what_is_no_parcel_is_passed_over() {
         card.put(name, old(b"tea"));
     }
     other.put("parcel", old(b"tea"));
-    symlink(other.path("parcel"), card.path("link")).unwrap();
+    let _link = Link::new(other.path("parcel"), card.path("link"));
     fs::create_dir(card.path("within")).unwrap();
     fs::copy(other.path("parcel"), card.path("within").join("parcel")).unwrap();
     make_pipe(&card.path("pipe"));
@@ -405,7 +405,7 @@ fn the_run_goes_on_where_a_file_fails() {
     }
     card.put("a.lock", b"");
     fs::create_dir(card.path("b.nonce")).unwrap();
-    symlink("nowhere", card.path("c.header")).unwrap();
+    let _link = Link::new("nowhere", card.path("c.header"));
     card.put("e", damaged(old(b"tea")));
     let before = card.age();
     let (status, counts, error) = card.convert(&["--nonce", NONCE]);

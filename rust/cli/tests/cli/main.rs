@@ -15,6 +15,7 @@ use calmbaize::Rounds;
 use std::ffi::OsStr;
 use std::fs;
 use std::io::Write;
+use std::os::unix::fs::symlink;
 use std::path::{Path, PathBuf};
 use std::process::{Command, Output, Stdio};
 
@@ -28,6 +29,22 @@ fn folder(name: &str) -> PathBuf {
     fs::remove_dir_all(&folder).ok();
     fs::create_dir_all(&folder).unwrap();
     folder
+}
+
+/// A symbolic link, which goes when the test ends: `rt ci` refuses every link in the checkout.
+struct Link(PathBuf);
+
+impl Link {
+    fn new(to: impl AsRef<Path>, at: PathBuf) -> Self {
+        symlink(to, &at).unwrap();
+        Self(at)
+    }
+}
+
+impl Drop for Link {
+    fn drop(&mut self) {
+        fs::remove_file(&self.0).ok();
+    }
 }
 
 fn run(args: &[impl AsRef<OsStr>], input: &[u8]) -> Output {

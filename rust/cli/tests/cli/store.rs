@@ -1,9 +1,8 @@
 //! The commands over a store of sales in a file.
 
 use crate::files::{mode, names, set_mode, FILES_OF_ONE_BLOCK, NO_FILES};
-use crate::{fails, folder, run, run_after, succeeds, KEY, TOOL};
+use crate::{fails, folder, run, run_after, succeeds, Link, KEY, TOOL};
 use std::fs;
-use std::os::unix::fs::symlink;
 use std::path::{Path, PathBuf};
 use std::process::{Command, Stdio};
 
@@ -141,9 +140,8 @@ fn the_store_is_not_written_over_by_a_sale() {
     let till = Till::formatted("written-over", 2);
     till.take("1", "150", "coin");
     let bytes = fs::read(&till.file).unwrap();
-    let link = till.folder.join("link");
-    symlink("till", &link).unwrap();
-    for output in [&till.file, link.to_str().unwrap()] {
+    let link = Link::new("till", till.folder.join("link"));
+    for output in [&till.file, link.0.to_str().unwrap()] {
         let read = till.args(&["read", "-o", output, "--machine=11", "--sale=1"]);
         let error = fails(&read, b"", 2);
         assert!(error.contains("--output is the store itself"), "{error}");
@@ -185,9 +183,8 @@ fn a_file_that_is_there_is_formatted_on_demand_only() {
     assert_eq!(till.keyed_text(&["total"]), "0\n");
     assert_eq!(fs::read(&till.file).unwrap().len(), before.len());
 
-    let link = till.folder.join("link");
-    symlink("nowhere", &link).unwrap();
-    let format = ["store", "format", link.to_str().unwrap(), "--cells=3"];
+    let link = Link::new("nowhere", till.folder.join("link"));
+    let format = ["store", "format", link.0.to_str().unwrap(), "--cells=3"];
     let error = fails(&format, b"", 2);
     assert!(error.contains("link: it is there already"), "{error}");
     assert_eq!(names(&till.folder).len(), 2);
@@ -295,15 +292,14 @@ fn sales_that_wont_open() {
 #[test]
 fn permissions_and_links_are_kept() {
     let till = Till::formatted("permissions", 3);
-    let link = till.folder.join("link");
-    symlink("till", &link).unwrap();
+    let link = Link::new("till", till.folder.join("link"));
     set_mode(Path::new(&till.file), 0o660);
     let mut args = till.keyed(&sale_options("1", "150", "coin"));
-    args[2] = link.to_str().unwrap();
+    args[2] = link.0.to_str().unwrap();
     let output = run_after("umask 077", &args, b"");
     assert_eq!(output.stdout, b"1\n");
     assert_eq!(mode(Path::new(&till.file)), 0o660);
-    assert!(fs::symlink_metadata(&link).unwrap().is_symlink());
+    assert!(fs::symlink_metadata(&link.0).unwrap().is_symlink());
     assert_eq!(till.keyed_text(&["total"]), "150\n");
 
     let new = till.folder.join("new");
