@@ -96,6 +96,10 @@ module _ (s m n : List ℕ) (q r : MarkedWalk) (v : Walked (sold_fits s) (cells 
 pub first-all-marked : (m : List ℕ) (n e : ℕ) → e ≤ n → n ≤ 64 * length m → 1 ≤ e → Unreached n m 0 → first_from (unmarked m) 1 (e - 1) ≡ e
 first-all-marked m n e a l b r = all_first (unmarked m) 1 (e - 1) (λ i c d. unreached-none m n l r i c (omega arith)) ∙ omega arith
 
+-- the same of a count of cells left, as the prover looks for it
+pub none_left : (m : List ℕ) (n e left : ℕ) → left ≡ 0 → Unreached n m left → e ≤ n → n ≤ 64 * length m → 1 ≤ e → e ≡ first_from (unmarked m) 1 (e - 1)
+none_left m n e left z r a l b = sym (first-all-marked m n e a l b (rw z at r))
+
 pub none-reached : (n : ℕ) (m : List ℕ) → 1 ≤ n → Marks m [] → Unreached n m (n - 1)
 unfolding count
 none-reached n m a h = record { head = h.each 0; many = omega (arith, bits_none m n (λ k. h.each k)) }

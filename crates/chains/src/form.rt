@@ -85,6 +85,7 @@ fn first_unmarked(marks: &[u64], end: usize) -> usize
 
 // The first cell from 1 on, below the end, that was not reached; or the end. Where as many cells were reached as there
 // are, the marks need no look.
+#[tactic(auto, using(crate::proofs::Faults::none_left))]
 fn first_unreached(marks: &[u64], cells: usize, end: usize, left: usize) -> usize
     requires { ((end ≤ cells) × (cells ≤ 64 * length marks.now)) × ((1 ≤ end) × Unreached cells marks.now left) }
     ensures { result ≡ first_from (unmarked marks.now) 1 (end - 1) }

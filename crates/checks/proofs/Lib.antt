@@ -1,3 +1,4 @@
 pub mod Clears
 pub mod Runs
 mod Listed
+mod Found

@@ -52,6 +52,7 @@ pub struct Lengths {
 }
 
 // What all check first.
+#[tactic(auto, unfolding(crate::specs::Checks::settings, answers::specs::Answers::line, answers::specs::Answers::line_at))]
 fn check_settings(mode: u32, rounds: u32, of: Lengths) -> Check
     ensures { result ≡ settings mode rounds of.key of.nonce of.header Clear }
 {
@@ -74,6 +75,7 @@ fn check_settings(mode: u32, rounds: u32, of: Lengths) -> Check
 }
 
 // Seal's checks but for the output's length.
+#[tactic(auto, using(crate::proofs::Found::message_long, crate::proofs::Found::message_fits))]
 fn check_message(mode: u32, rounds: u32, of: Lengths) -> Check
     ensures { result ≡ seal_inputs mode rounds of.key of.nonce of.header of.input Clear }
 {
@@ -88,6 +90,7 @@ fn check_message(mode: u32, rounds: u32, of: Lengths) -> Check
 }
 
 // Open's checks but for the output's length and the tag.
+#[tactic(auto, using(crate::proofs::Found::parcel_short, crate::proofs::Found::parcel_long, crate::proofs::Found::parcel_fits))]
 pub fn check_parcel(mode: u32, rounds: u32, of: Lengths) -> Check
     ensures { result ≡ open_inputs mode rounds of.key of.nonce of.header of.input Clear }
 {

@@ -65,7 +65,8 @@ pub fn pass(start: [u64; 16], rounds: u32, s: &[u8], opening: bool, out: &mut [u
     let blocks = pass_blocks(gamma(start), rounds, s, opening, out);
     let n = s.len();
     let at = 128 * (n / 128);
-    if at == n {
+    let is_whole = at == n;
+    if is_whole {
         return blocks;
     }
     pass_leftover(blocks, rounds, &s[at..], opening, &mut out[at..])
