@@ -65,8 +65,7 @@ pub fn pass(start: [u64; 16], rounds: u32, s: &[u8], opening: bool, out: &mut [u
     let blocks = pass_blocks(gamma(start), rounds, s, opening, out);
     let n = s.len();
     let at = 128 * (n / 128);
-    let is_whole = at == n;
-    if is_whole {
+    if at == n {
         return blocks;
     }
     pass_leftover(blocks, rounds, &s[at..], opening, &mut out[at..])

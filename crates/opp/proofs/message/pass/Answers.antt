@@ -10,9 +10,9 @@ use Rattle.blockplan.specs.Plan.{whole, left}
 use Rattle.opp.proofs.Passes.{blocks-planned, all_whole, all_left}
 use Rattle.opp.proofs.message.pass.Goals as goal
 
-pub returns-then-is_whole : goal.returns-then-is_whole
+pub returns-then-at-n : goal.returns-then-at-n
 unfolding whole
-returns-then-is_whole c =
+returns-then-at-n c =
     let start = c in
     let a = start.args in
     let s = a.s.now in
@@ -31,6 +31,6 @@ returns c =
     let bytes : Bytes s = record { bytes = λ i. (c.type_inv.s i).fits } in
     let blocks = blocks-planned a.rounds a.start s block a.opening
     (rw c.gamma.ensures at c.pass_blocks-blocks.ensures) in
-    let q : 128 * whole s ≡ length s → ⊥ = λ e. c.if-is_whole.false (omega arith) in
+    let q : 128 * whole s ≡ length s → ⊥ = λ e. omega arith in
     let rest = rw (tail_part (128 * whole s) s) at c.pass_leftover.ensures in
     all_left a.rounds a.start s block bytes a.opening a.out.now _ _ _ blocks _ _ _ q rest.out_after rest.sum_value.0 rest.sum_value.1
