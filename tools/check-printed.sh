@@ -13,18 +13,19 @@ root=$(cd "$(dirname "$0")/.." && pwd)
 cd "${1:-$root}" || exit 2
 definitions=crates/permutation/specs/Permutation.antt
 groups=crates/permutation/src/round.rt
-lines=crates/permutation/src/g.rt
+places=crates/permutation/src/g.rt
+lines=crates/permutation/src/way.rt
 groups4=crates/lanes/src/round.rt
 lines4=crates/lanes/src/g.rt
 page=docs/PAPER.md
-for file in "$definitions" "$groups" "$lines" "$groups4" "$lines4" "$page"; do
+for file in "$definitions" "$groups" "$places" "$lines" "$groups4" "$lines4" "$page"; do
     if [ ! -f "$file" ]; then
         echo "check-printed: $file is missing" >&2
         exit 2
     fi
 done
 
-awk -v definitions="$definitions" -v groups="$groups" -v lines="$lines" -v page="$page" \
+awk -v definitions="$definitions" -v groups="$groups" -v places="$places" -v lines="$lines" -v page="$page" \
     -v groups4="$groups4" -v lines4="$lines4" '
 # The lines stand in the file one below the other, in a paragraph with a line that begins so. Blanks
 # before a line, and the sign that joins it to a list, do not count.
@@ -50,46 +51,44 @@ BEGIN {
     RS = ""
     # Section 8: the words that each G of a round takes.
     n = split("0 4 8 12,1 5 9 13,2 6 10 14,3 7 11 15,0 5 10 15,1 6 11 12,2 7 8 13,3 4 9 14", step, ",")
-    split("c0 c1 c2 c3 d0 d1 d2", block, " ")
     before = "s"
     for (k = 1; k <= n; k++) {
         split(step[k], w, " ")
         printed = "G(s" w[1] ", s" w[2] ", s" w[3] ", s" w[4] ");"
         definition = "(" w[1] " ∷ " w[2] " ∷ " w[3] " ∷ " w[4] " ∷ [])"
         entry = "[" w[1] ", " w[2] ", " w[3] ", " w[4] "],"
-        call = "step(" before ", " k - 1 ")"
-        if (k < n) call = "let " block[k] " = " call ";"
-        before = block[k]
+        call = "step::<W>(" before ", " k - 1 ")"
+        if (k < n) call = "let r" k " = " call ";"
+        before = "r" k
         if (k <= 4) columns = columns "\n" definition
         else diagonals = diagonals "\n" definition
         table = table "\n" entry
         round = round "\n" call
-        round4 = round4 "\nstep4(w, " k - 1 ");"
+        round4 = round4 "\nstep4::<W>(w, " k - 1 ");"
         rows = rows row(printed, definition, entry, call)
     }
     check(definitions, "columns =", columns)
     check(definitions, "diagonals =", diagonals)
     check(groups, "pub const GROUPS", table)
-    check(groups, "pub fn round(", round)
-    check(groups4, "pub fn round4(", round4)
+    check(groups, "pub fn round<W: Way>(", round)
+    check(groups4, "pub fn round4<W: Way>(", round4)
     check(page, "| Section 8 |", rows)
 
-    # Step k of either round is the one G, at the words that row k of the one table names.
-    named = "q[0], q[1], q[2], q[3])"
-    check(groups, "fn step(", "\nlet q = GROUPS[k];\ng_at(s, " named)
-    check(groups4, "fn step4(", "\nlet q = GROUPS[k];\ng4(w, " named ";")
-    check(groups4, "use ", "\nuse permutation::round::GROUPS;")
-    check(lines4, "use ", "\nuse permutation::g::{Quad, back_g, g};")
-    for (m = 0; m < 4; m++) lanes = lanes "\ng_lane(w, i, j, k, l, " m ");"
-    check(lines4, "pub fn g4(", lanes)
+    # Step k of either round is the one G, at the words that row k of the one table names, forward.
+    check(lines, "impl Way for Forward {", "\nghost group = { λ k. k };")
+    check(groups, "fn step<W: Way>(", "\ng_at::<W>(s, GROUPS[W::group(k)])")
+    check(groups4, "fn step4<W: Way>(", "\ng4::<W>(w, GROUPS[W::group(k)]);")
+    check(groups4, "use ", "\nuse permutation::round::GROUPS;\nuse permutation::way::Way;")
+    check(lines4, "use ", "\nuse permutation::g::Quad;\nuse permutation::way::Way;")
+    for (m = 0; m < 4; m++) lanes = lanes "\ng_lane::<W>(w, row, " m ");"
+    check(lines4, "pub fn g4<W: Way>(", lanes)
     split("a b c d", letter, " ")
-    split("i j k l", word, " ")
     for (n = 1; n <= 4; n++) {
-        taken = taken "\n" letter[n] ": s[" word[n] "],"
-        taken4 = taken4 "\n" letter[n] ": w[4 * " word[n] " + m],"
+        taken = taken "\n" letter[n] ": s[row[" n - 1 "]],"
+        taken4 = taken4 "\n" letter[n] ": w[4 * row[" n - 1 "] + m],"
     }
-    check(lines, "pub fn g_at(", "\nlet made = g(Quad {" taken)
-    check(lines4, "fn g_lane(", "\nlet made = g(Quad {" taken4)
+    check(places, "pub fn g_at<W: Way>(", "\nlet made = W::g(Quad {" taken)
+    check(lines4, "fn g_lane<W: Way>(", "\nlet made = W::g(Quad {" taken4)
 
     # Section 8: the assignments of G, a sum of two words, or a word xor another rotated right by a number.
     n = split("a b,d a 32,c d,b c 24,a b,d a 16,c d,b c 63", step, ",")
@@ -109,7 +108,7 @@ BEGIN {
         rows = rows row(printed, definition, code, "")
     }
     check(definitions, "g_of q =", defined)
-    check(lines, "pub fn g(", coded)
+    check(lines, "    fn g(", coded)
     check(page, "| Section 8 |", rows)
 
     print passed + 0 " passed, " failed + 0 " failed"

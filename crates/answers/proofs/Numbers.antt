@@ -5,13 +5,12 @@ use mathlib.Core.List.{List, [], ◌∷◌}
 use Prim.Native.Nat.{ℕ, zero, suc, ◌/◌, ◌%◌, ◌^◌, ◌<◌}
 use lib.Arith.{digits_div, digits_mod}
 use lib.Dec.{eqb, lit<}
-use Rattle.answers.specs.Answers.{ground_number, number_of, value_of, code_of, refused_or, judged, shown, totalled}
+use Rattle.std.specs.Prelude.{Ok, Err}
+use Rattle.answers.specs.Answers.{Check, Answer, ground_number, number_of, value_of, code_of, judged, shown, totalled}
+use Rattle.answers.specs.Refusals.{refusal}
+use Rattle.answers.specs.declared.Refusal.{Refusal}
 use Rattle.answers.specs.declared.Ground.{Ground}
 use Rattle.answers.specs.declared.Ground.TheVariants.{ModeNumber, Rounds, KeyLength, NonceLength, HeaderLength, InputLength, OutputLength, TagMissing, TagDiffers, StartLength, NetCount, StepByte, ListLength, StoreFull, SaleNumbers, DoneAlready, StoreLength, StoreIndex, StoreKind}
-use Rattle.answers.specs.declared.Check.{Check}
-use Rattle.answers.specs.declared.Check.TheVariants.{Clear, Fails}
-use Rattle.answers.specs.declared.Answer.{Answer}
-use Rattle.answers.specs.declared.Answer.TheVariants.{Done, Refused}
 use Rattle.answers.proofs.Values.{place_of}
 
 -- an answer's number and value, taken apart again
@@ -33,30 +32,33 @@ ground_of (why ∷ others) n = cond (eqb (ground_number why) n) why (ground_of o
 
 -- the answer with that number, and that value or place
 abbrev answer_of : ℕ → ℕ → Answer
-answer_of zero value = Done value
-answer_of (suc n) place = Refused (ground_of grounds (suc n)) place
+answer_of zero value = Ok value
+answer_of (suc n) place = Err (refusal (ground_of grounds (suc n)) place)
+
+ground_back : (why : Ground) (place : ℕ) → answer_of (ground_number why) place ≡ Err (refusal why place)
+ground_back ModeNumber place = refl
+ground_back Rounds place = refl
+ground_back KeyLength place = refl
+ground_back NonceLength place = refl
+ground_back HeaderLength place = refl
+ground_back InputLength place = refl
+ground_back OutputLength place = refl
+ground_back TagMissing place = refl
+ground_back TagDiffers place = refl
+ground_back StartLength place = refl
+ground_back NetCount place = refl
+ground_back StepByte place = refl
+ground_back ListLength place = refl
+ground_back StoreFull place = refl
+ground_back SaleNumbers place = refl
+ground_back DoneAlready place = refl
+ground_back StoreLength place = refl
+ground_back StoreIndex place = refl
+ground_back StoreKind place = refl
 
 answer_back : (a : Answer) → answer_of (number_of a) (value_of a) ≡ a
-answer_back (Done value) = refl
-answer_back (Refused ModeNumber place) = refl
-answer_back (Refused Rounds place) = refl
-answer_back (Refused KeyLength place) = refl
-answer_back (Refused NonceLength place) = refl
-answer_back (Refused HeaderLength place) = refl
-answer_back (Refused InputLength place) = refl
-answer_back (Refused OutputLength place) = refl
-answer_back (Refused TagMissing place) = refl
-answer_back (Refused TagDiffers place) = refl
-answer_back (Refused StartLength place) = refl
-answer_back (Refused NetCount place) = refl
-answer_back (Refused StepByte place) = refl
-answer_back (Refused ListLength place) = refl
-answer_back (Refused StoreFull place) = refl
-answer_back (Refused SaleNumbers place) = refl
-answer_back (Refused DoneAlready place) = refl
-answer_back (Refused StoreLength place) = refl
-answer_back (Refused StoreIndex place) = refl
-answer_back (Refused StoreKind place) = refl
+answer_back (Ok value) = refl
+answer_back (Err found) = ground_back found.why found.place
 
 pub told-apart : (a b : Answer) → value_of a < 2 ^ 32 → value_of b < 2 ^ 32 → code_of a ≡ code_of b → a ≡ b
 told-apart a b h k e =
@@ -68,15 +70,15 @@ told-apart a b h k e =
 
 -- ---- total's answer, and its variable
 
-pub shown-lt : (c : Check) (v : ℕ) → place_of c < 2 ^ 32 → value_of (shown (judged c (Done v))) < 2 ^ 32
-unfolding judged refused_or
-shown-lt Clear v h = lit< tt
-shown-lt (Fails g at) v h = h
+pub shown-lt : (c : Check) (v : ℕ) → place_of c < 2 ^ 32 → value_of (shown (judged c (Ok v))) < 2 ^ 32
+unfolding judged
+shown-lt (Ok none) v h = lit< tt
+shown-lt (Err found) v h = h
 
-pub total-done : (a : Answer) (v before : ℕ) → a ≡ Done v → (0, v) ≡ totalled a before
+pub total-done : (a : Answer) (v before : ℕ) → a ≡ Ok v → (0, v) ≡ totalled a before
 unfolding totalled code_of
 total-done a v before e = rw e
 
-pub total-refused : (a : Answer) (n before : ℕ) {g : Ground} {at : ℕ} → a ≡ Refused g at → n ≡ code_of (Refused g at) → (n, before) ≡ totalled a before
+pub total-refused : (a : Answer) (n before : ℕ) {why : Refusal} → a ≡ Err why → n ≡ code_of (Err why) → (n, before) ≡ totalled a before
 unfolding totalled
 total-refused a n before e h = rw (e, h)

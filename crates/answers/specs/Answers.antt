@@ -1,11 +1,21 @@
 -- What a public call answers, and what its checks find (document 01, "Entry points and where each call is checked"). Assumes nothing.
-use Rattle.std.specs.Prelude.{Bool, true, false, ℕ, ◌+◌, ◌*◌, ◌^◌, ltb}
+use Rattle.std.specs.Prelude.{Bool, true, false, ℕ, ◌+◌, ◌*◌, ◌^◌, ltb, Result, Ok, Err, ⊤}
 use Rattle.answers.specs.declared.Ground.{Ground}
 use Rattle.answers.specs.declared.Ground.TheVariants.{ModeNumber, Rounds, KeyLength, NonceLength, HeaderLength, InputLength, OutputLength, TagMissing, TagDiffers, StartLength, NetCount, StepByte, ListLength, StoreFull, SaleNumbers, DoneAlready, StoreLength, StoreIndex, StoreKind}
-use Rattle.answers.specs.declared.Check.{Check}
-use Rattle.answers.specs.declared.Check.TheVariants.{Clear, Fails}
-use Rattle.answers.specs.declared.Answer.{Answer}
-use Rattle.answers.specs.declared.Answer.TheVariants.{Done, Refused}
+use Rattle.answers.specs.declared.Refusal.{Refusal}
+use Rattle.answers.specs.Refusals.{refusal}
+
+-- what a call's checks find: nothing, or a refusal
+abbrev pub Check : Type 0
+Check = Result ⊤ Refusal
+
+-- checks that find nothing
+abbrev pub clear : Check
+clear = Ok tt
+
+-- what a call answers: a value, or a refusal
+abbrev pub Answer : Type 0
+Answer = Result ℕ Refusal
 
 -- ---- answers
 
@@ -33,13 +43,13 @@ ground_number StoreKind = 20
 
 -- a refusal returns its number; 0 is success
 abbrev pub number_of : Answer → ℕ
-number_of (Done value) = 0
-number_of (Refused why place) = ground_number why
+number_of (Ok value) = 0
+number_of (Err found) = ground_number found.why
 
 -- success returns a value: the bytes written, or what the call says; a refusal a place
 abbrev pub value_of : Answer → ℕ
-value_of (Done value) = value
-value_of (Refused why place) = place
+value_of (Ok value) = value
+value_of (Err found) = found.place
 
 -- an answer as one number, for C: the refusal's number times 2^32, plus the place; on success the value
 unfoldable pub code_of : Answer → ℕ
@@ -51,13 +61,13 @@ coded r = (code_of r.0, r.1)
 
 -- total's answer for C: 0 on success, since the total itself may pass 2^32
 abbrev pub shown : Answer → Answer
-shown (Done total) = Done 0
-shown (Refused why place) = Refused why place
+shown (Ok total) = Ok 0
+shown (Err found) = Err found
 
 -- what C's variable for the total holds afterwards: the total; where refused what it held before
 abbrev pub total_in : Answer → ℕ → ℕ
-total_in (Done total) before = total
-total_in (Refused why place) before = before
+total_in (Ok total) before = total
+total_in (Err found) before = before
 
 -- total's one number, and its variable
 unfoldable pub totalled : Answer → ℕ → ℕ × ℕ
@@ -67,7 +77,7 @@ totalled a before = (code_of (shown a), total_in a before)
 
 -- a line of the table: where its ground holds, that is what the checks find, at that place; else the next line decides
 unfoldable pub line_at : Bool → Ground → ℕ → Check → Check
-line_at true why place next = Fails why place
+line_at true why place next = Err (refusal why place)
 line_at false why place next = next
 
 -- a line whose place is 0
@@ -80,14 +90,10 @@ room needed lent next = line (ltb lent needed) OutputLength next
 
 -- a call: what its checks find it answers, and changes nothing of what it may write; where they are clear it answers and writes as given
 unfoldable pub checked : {A : Type 0} → Check → A → Answer × A → Answer × A
-checked (Fails why place) before result = (Refused why place, before)
-checked Clear before result = result
+checked (Err found) before result = (Err found, before)
+checked (Ok none) before result = result
 
--- a result of any kind after checks: what they find, refused in this way; where they are clear the result given
-unfoldable pub refused_or : {A : Type 0} → (Ground → ℕ → A) → Check → A → A
-refused_or refuse (Fails why place) result = refuse why place
-refused_or refuse Clear result = result
-
--- a call that writes nothing: what its checks find, or the answer given
-unfoldable pub judged : Check → Answer → Answer
-judged c answer = refused_or Refused c answer
+-- a call that writes nothing: what its checks find, or the result given
+unfoldable pub judged : {A : Type 0} → Check → Result A Refusal → Result A Refusal
+judged (Err found) result = Err found
+judged (Ok none) result = result

@@ -3,11 +3,11 @@
 #![tactic(auto)]
 
 ghost use Rattle.std.specs.Prelude.{◌≡◌, ◌<◌, ◌^◌};
-ghost use Rattle.answers.specs.Answers.{ground_number, number_of, value_of, code_of, room as room_of};
-ghost use Rattle.answers.specs.declared.Check.TheVariants.{Clear};
+ghost use Rattle.answers.specs.Answers.{clear, ground_number, number_of, value_of, code_of, room as room_of};
+ghost use Rattle.answers.specs.Refusals.{refusal};
 
 // Why a call is refused.
-#[derive(Clone, Copy)]
+#[derive(Clone, Copy, Debug, PartialEq, Eq)]
 pub enum Ground {
     // The mode is not 1 or 2.
     ModeNumber,
@@ -49,54 +49,74 @@ pub enum Ground {
     StoreKind,
 }
 
-// What a call's checks find: nothing, or the first ground that holds and its place.
-#[derive(Clone, Copy)]
-pub enum Check {
-    Clear,
-    Fails(Ground, u64),
+// A refusal: its ground, and the place that goes with it, or 0.
+#[derive(Clone, Copy, Debug, PartialEq, Eq)]
+pub struct Refusal {
+    pub why: Ground,
+    pub place: u64,
 }
+
+// A ground whose place is 0.
+impl From<Ground> for Refusal {
+    ghost from_gives = { λ why r. r ≡ refusal why 0 };
+
+    fn from(why: Ground) -> Refusal {
+        Refusal { why, place: 0 }
+    }
+}
+
+impl Ground {
+    // The refusal on this ground, at a place.
+    pub fn at(self, place: u64) -> Refusal
+        ensures { result ≡ refusal self place }
+    {
+        Refusal { why: self, place }
+    }
+}
+
+// What a call's checks find: nothing, or the first ground that holds and its place.
+pub type Check = Result<(), Refusal>;
 
 // Success and its value, or the ground of refusal and its place.
-#[derive(Clone, Copy)]
-pub enum Answer {
-    Done(u64),
-    Refused(Ground, u64),
-}
+pub type Answer = Result<u64, Refusal>;
 
 // The number of a ground.
-fn ground_number(g: Ground) -> u32
-    ensures { result ≡ ground_number g }
-{
-    match g {
-        Ground::ModeNumber => 1,
-        Ground::Rounds => 2,
-        Ground::KeyLength => 3,
-        Ground::NonceLength => 4,
-        Ground::HeaderLength => 5,
-        Ground::InputLength => 6,
-        Ground::OutputLength => 7,
-        Ground::TagMissing => 8,
-        Ground::TagDiffers => 9,
-        Ground::StartLength => 10,
-        Ground::NetCount => 11,
-        Ground::StepByte => 12,
-        Ground::ListLength => 13,
-        Ground::StoreFull => 15,
-        Ground::SaleNumbers => 16,
-        Ground::DoneAlready => 17,
-        Ground::StoreLength => 18,
-        Ground::StoreIndex => 19,
-        Ground::StoreKind => 20,
+impl From<Ground> for u32 {
+    ghost from_gives = { λ why n. n ≡ ground_number why };
+
+    fn from(why: Ground) -> u32 {
+        match why {
+            Ground::ModeNumber => 1,
+            Ground::Rounds => 2,
+            Ground::KeyLength => 3,
+            Ground::NonceLength => 4,
+            Ground::HeaderLength => 5,
+            Ground::InputLength => 6,
+            Ground::OutputLength => 7,
+            Ground::TagMissing => 8,
+            Ground::TagDiffers => 9,
+            Ground::StartLength => 10,
+            Ground::NetCount => 11,
+            Ground::StepByte => 12,
+            Ground::ListLength => 13,
+            Ground::StoreFull => 15,
+            Ground::SaleNumbers => 16,
+            Ground::DoneAlready => 17,
+            Ground::StoreLength => 18,
+            Ground::StoreIndex => 19,
+            Ground::StoreKind => 20,
+        }
     }
 }
 
 // The number of the ground, or 0 on success.
+// Kept: functions, here and below, since an answer is std's Result, which takes no methods of ours.
 fn number(a: Answer) -> u32
     ensures { result ≡ number_of a }
 {
     match a {
-        Answer::Done(_) => 0,
-        Answer::Refused(ground, _) => ground_number(ground),
+        Ok(_) => 0,
+        Err(refusal) => u32::from(refusal.why),
     }
 }
 
@@ -105,8 +125,8 @@ fn value(a: Answer) -> u64
     ensures { result ≡ value_of a }
 {
     match a {
-        Answer::Done(value) => value,
-        Answer::Refused(_, place) => place,
+        Ok(value) => value,
+        Err(refusal) => refusal.place,
     }
 }
 
@@ -119,11 +139,12 @@ pub fn code(a: Answer) -> u64
 }
 
 // The check that an output has room for what success writes.
+#[tactic(auto, unfolding(crate::specs::Answers::room, crate::specs::Answers::line, crate::specs::Answers::line_at))]
 pub fn room(needed: usize, lent: usize) -> Check
-    ensures { result ≡ room_of needed lent Clear }
+    ensures { result ≡ room_of needed lent clear }
 {
     if lent < needed {
-        return Check::Fails(Ground::OutputLength, 0);
+        return Err(Refusal::from(Ground::OutputLength));
     }
-    Check::Clear
+    Ok(())
 }

@@ -13,6 +13,8 @@ pub fn back_alpha(s: [u64; 16]) -> [u64; 16]
     ensures { (result ≡ back_alpha s) × OnlyBlock alpha s result }
 {
     let w = rotate_right(s[15] ^ shift_left(s[4], 13), 53);
+    // Kept: the words one by one, as in alpha, since std's `rotate_right` of the array moves them through memory, at 69
+    // instructions for 40.
     [
         w, s[0], s[1], s[2], s[3], s[4], s[5], s[6], s[7], s[8], s[9], s[10], s[11], s[12], s[13],
         s[14],
@@ -20,15 +22,14 @@ pub fn back_alpha(s: [u64; 16]) -> [u64; 16]
 }
 
 // The table's words at places at, at + step, .., each times a bit of e, xored.
+#[tactic(auto, unfolding(crate::specs::BackSteps::chosen))]
 fn choose(t: &[u64], at: usize, step: usize, e: u64) -> u64
     requires { at + step * 63 < length t.now }
     ensures { result ≡ chosen t.now at step e 64 }
 {
     let mut r: u64 = 0;
-    let mut n: usize = 0;
-    while n < 64 {
+    for n in 0..64 {
         r = (t[at + step * n] * ((e >> n) % 2)) ^ r;
-        n += 1;
     }
     r
 }
@@ -39,11 +40,9 @@ fn beta_run(b: [u64; 16], x: u64) -> [u64; 16]
 {
     let mut r = b;
     let mut u = x;
-    let mut i: usize = 0;
-    while i < 16 {
+    for i in 0..16 {
         r[i] = u;
-        u = u ^ b[i];
-        i += 1;
+        u ^= b[i];
     }
     r
 }
@@ -64,18 +63,17 @@ fn gamma_run(b: [u64; 16], x: u64, y: u64) -> [u64; 16]
     let mut r = b;
     let mut u = x;
     let mut v = y;
-    let mut i: usize = 0;
-    while i < 16 {
+    for i in 0..16 {
         r[i] = u;
         let w = (v ^ u) ^ b[i];
         u = v;
         v = w;
-        i += 1;
     }
     r
 }
 
 // One of the two words that backward gamma solves for.
+#[tactic(auto, unfolding(crate::specs::BackSteps::gamma_word))]
 fn gamma_word(t: &[u64], at: usize, e: u64, f: u64) -> u64
     requires { at + 254 < length t.now }
     ensures { result ≡ gamma_word t.now at e f }

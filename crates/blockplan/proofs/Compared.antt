@@ -1,6 +1,6 @@
 -- Laws of the comparison: no bit differs exactly where all numbers are the same. Assumes nothing.
 use mathlib.Core.Path.{◌≡◌, refl, sym, ap, ap₂, ◌∙◌}
-use mathlib.Core.Bool.{Bool, true, false, ◌&&◌, and-true, false≢true}
+use mathlib.Core.Bool.{Bool, true, ◌&&◌, and-true, and_assoc, false≢true}
 use mathlib.Core.List.{List, [], ◌∷◌, ◌++◌}
 use Prim.Native.Nat.{ℕ, zero, suc, ◌≤◌}
 use native.Mathlib.Omega.{arith}
@@ -14,10 +14,6 @@ use Rattle.words.proofs.Truth.{both}
 use Rattle.words.proofs.Xor.{xor-cancel-r}
 use Rattle.blockplan.specs.Parcel.{same}
 use Rattle.blockplan.specs.Compare.{differing}
-
-and_assoc : (a b c : Bool) → ((a && b) && c) ≡ (a && (b && c))
-and_assoc true b c = refl
-and_assoc false b c = refl
 
 xor-none : (x y : ℕ) → bit_xor x y ≡ 0 → x ≡ y
 xor-none x y e = sym (xor-cancel-r x y) ∙ ap (λ (z : ℕ). bit_xor z y) e

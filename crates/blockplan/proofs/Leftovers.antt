@@ -4,12 +4,12 @@ use mathlib.Core.Bool.{true, false}
 use mathlib.Core.List.{List, [], ◌∷◌, ◌++◌}
 use Prim.Native.Nat.{ℕ, zero, suc, ◌+◌, ◌-◌, ◌*◌, ◌≤◌, ◌<◌}
 use native.Mathlib.Omega.{arith}
-use lib.ListN.{length, get_or, drop, length-drop, drop_of_length-le}
+use lib.ListN.{length, get_or, drop, set, length-append, length-drop, drop_of_length-le}
 use lib.Seq.{get_or-drop}
 use borrow.Author.Tests.{lt-ltb, le-ltb}
 use Rattle.words.specs.Sequence.{tab, zeros}
 use Rattle.words.specs.Block.{Block, Bytes, block_of}
-use Rattle.words.proofs.Lists.{get_or-zeros, zeros-more}
+use Rattle.words.proofs.Lists.{length-tab, extended, get_or-zeros, zeros-more}
 use Rattle.words.proofs.Blocks.{bytes_drop, block-block_of, block_of-ext}
 use Rattle.blockplan.specs.Plan.{whole, left, has_left, block_at}
 
@@ -56,6 +56,10 @@ pub padded-zero : (s : List ℕ) → block_of (s ++ (0 ∷ [])) ≡ block_of s
 unfolding zeros tab
 padded-zero s = block_of-ext (s ++ zeros 1) s (zeros-more s 1)
 
+length-zeros : (k : ℕ) → length (zeros k) ≡ k
+unfolding zeros
+length-zeros k = length-tab (λ i. 0) k
+
 -- zeros behind read the same
 zeros-behind : (s u : List ℕ) → ((i : ℕ) → get_or u i 0 ≡ 0) → (i : ℕ) → get_or (s ++ u) i 0 ≡ get_or s i 0
 zeros-behind [] u h i = h i
@@ -63,5 +67,16 @@ zeros-behind (x ∷ xs) u h zero = refl
 zeros-behind (x ∷ xs) u h (suc i) = zeros-behind xs u h i
 
 -- so do the zeros that are left of k, where the front was written over
-pub padded-rest : (s : List ℕ) (n k : ℕ) → block_of (s ++ drop n (zeros k)) ≡ block_of s
-padded-rest s n k = block_of-ext (s ++ drop n (zeros k)) s (zeros-behind s (drop n (zeros k)) (λ i. get_or-drop n (zeros k) i 0 ∙ get_or-zeros k (n + i)))
+module _ (s : List ℕ) (n k : ℕ) where
+  rest-zero : (i : ℕ) → get_or (s ++ drop n (zeros k)) i 0 ≡ get_or s i 0
+  rest-zero = zeros-behind s (drop n (zeros k)) (λ i. get_or-drop n (zeros k) i 0 ∙ get_or-zeros k (n + i))
+
+  pub padded-rest : block_of (s ++ drop n (zeros k)) ≡ block_of s
+  padded-rest = block_of-ext (s ++ drop n (zeros k)) s rest-zero
+
+-- and one more byte put behind that front
+pub padded-set : (s : List ℕ) (v k : ℕ) → length s < k → block_of (set (s ++ drop (length s) (zeros k)) (length s) v) ≡ block_of (s ++ (v ∷ []))
+padded-set s v k h =
+    let xs = s ++ drop (length s) (zeros k) in
+    let long : length s < length xs = simp (length-append, length-drop, length-zeros) (omega arith) in
+    block_of-ext _ _ (extended xs s v long (rest-zero s (length s) k))

@@ -1,16 +1,17 @@
 -- Laws of a tag's bytes, the first 32 of a block, and of the four words that they stand for. Assumes nothing.
 use mathlib.Core.Path.{◌≡◌, sym, ap, ◌∙◌}
 use mathlib.Core.List.{List, [], ◌++◌, append-nil}
-use Prim.Native.Nat.{ℕ, ◌*◌, ◌<◌, ◌≤◌}
+use Prim.Native.Nat.{ℕ, ◌-◌, ◌*◌, ◌<◌, ◌≤◌}
 use native.Mathlib.Omega.{arith}
 use lib.Dec.{lit<}
-use lib.ListN.{length, get_or, take, drop, length-append, drop_of_length-le}
+use lib.ListN.{length, get_or, take, drop, length-append, length-drop, drop_of_length-le}
 use lib.Seq.{take_at, length-take-le}
 use Rattle.words.specs.Sequence.{tab, cat, zeros}
 use Rattle.words.specs.Block.{Block, Bytes, le, word_at, word_bytes, block_of, bytes_of}
 use Rattle.words.proofs.Lists.{length-tab, piece, take-cat, get_or-zeros, zeros-more, tab-zeros}
-use Rattle.words.proofs.Blocks.{length-word_bytes, le-low_bytes, length-bytes_of, bytes-bytes_of, bytes_take, bytes-append, bytes-are, block_of-ext}
+use Rattle.words.proofs.Blocks.{length-word_bytes, le-low_bytes, length-bytes_of, bytes-bytes_of, bytes_take, bytes_drop, bytes-append, bytes-are, block_of-ext}
 use Rattle.blockplan.specs.Plan.{tag_bytes}
+use Rattle.blockplan.specs.Parcel.{tag_part}
 
 pub length-tag_bytes : (b : List ℕ) → length (tag_bytes b) ≡ 32
 unfolding tag_bytes
@@ -51,3 +52,10 @@ tag-of-block t h e =
     let bytes : Bytes all = bytes-append t (zeros 96) h (record { bytes = λ i. rw (get_or-zeros 96 i) (lit< tt) }) in
     ap (λ (b : List ℕ). take 32 (bytes_of b)) (sym (block_of-ext all t (zeros-more t 96)))
     ∙ ap (take 32) (bytes-are all bytes long) ∙ take_at t (zeros 96) 32 e
+
+-- the block that a parcel's last 32 bytes stand for begins with its tag
+pub tag-of-parcel : (parcel block : List ℕ) → Bytes parcel → 32 ≤ length parcel → block ≡ block_of (drop (length parcel - 32) parcel) → tag_bytes block ≡ tag_part parcel
+unfolding tag_part
+tag-of-parcel parcel block h long e =
+    let n = length parcel - 32 in
+    ap tag_bytes e ∙ tag-of-block (drop n parcel) (bytes_drop n parcel h) (simp length-drop (omega arith))

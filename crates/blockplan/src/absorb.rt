@@ -20,19 +20,17 @@ pub fn absorb_left(sum: [u64; 16], s: &[u8], pad: u8, mask: [u64; 16], rounds: u
 }
 
 // A leftover's mask: the one that is next, or, apart from the whole blocks', a beta step on from it.
-fn left_mask(mask: [u64; 16], apart: bool) -> [u64; 16]
-    ensures { result ≡ cond apart (beta_of mask) mask }
+fn left_mask<const APART: bool>(mask: [u64; 16]) -> [u64; 16]
+    ensures { result ≡ cond APART (beta_of mask) mask }
 {
-    if apart {
-        return beta(mask);
-    }
-    mask
+    if APART { beta(mask) } else { mask }
 }
 
 // The sum of all blocks of s, the first under the mask given. What is not yet taken in is handed on as the
 // part from the next block on: to the next turn, and from the last one to the leftover's work.
-pub fn absorb(s: &[u8], first: [u64; 16], apart: bool, pad: u8, rounds: u32) -> [u64; 16]
-    ensures { result ≡ xor_if (has_left s.now) (xor_over (made_at (under false rounds (stepping first)) s.now) (whole s.now)) (encipher_of rounds (cond apart (beta_of (stepping first (whole s.now))) (stepping first (whole s.now))) (block_of (left s.now ++ (pad ∷ [])))) }
+// Kept: `rest` is shortened by hand and no iterator goes over the blocks, since document 01 names this form.
+pub fn absorb<const APART: bool>(s: &[u8], first: [u64; 16], pad: u8, rounds: u32) -> [u64; 16]
+    ensures { result ≡ xor_if (has_left s.now) (xor_over (made_at (under false rounds (stepping first)) s.now) (whole s.now)) (encipher_of rounds (cond APART (beta_of (stepping first (whole s.now))) (stepping first (whole s.now))) (block_of (left s.now ++ (pad ∷ [])))) }
 {
     let mut rest = s;
     let mut sum = zero();
@@ -47,5 +45,5 @@ pub fn absorb(s: &[u8], first: [u64; 16], apart: bool, pad: u8, rounds: u32) -> 
     if rest.len() == 0 {
         return sum;
     }
-    absorb_left(sum, rest, pad, left_mask(mask, apart), rounds)
+    absorb_left(sum, rest, pad, left_mask::<APART>(mask), rounds)
 }

@@ -9,15 +9,15 @@ pub fn padded(s: &[u8], pad: u8) -> [u64; 16]
     requires { length s.now < 128 }
     ensures { result ≡ block_of (s.now ++ (pad ∷ [])) }
 {
+    let n = s.len();
     let mut bytes = [0u8; 128];
-    let mut i: usize = 0;
-    while i < s.len() {
-        bytes[i] = s[i];
-        i += 1;
-    }
-    bytes[i] = pad;
+    bytes[..n].copy_from_slice(s);
+    bytes[n] = pad;
     load(&bytes)
 }
+
+// Kept: that an output has room for the bytes is a clause here and above, since it speaks of two arguments; and a
+// parcel's tag is cut off where it is used, since a struct round a parcel would have to be made and taken apart in each call.
 
 // The leftover, xored with the first bytes of the stream's block, to the front of the output.
 pub fn xor_leftover(s: &[u8], stream: [u64; 16], out: &mut [u8])
@@ -26,9 +26,7 @@ pub fn xor_leftover(s: &[u8], stream: [u64; 16], out: &mut [u8])
 {
     let mut bytes = [0u8; 128];
     store(stream, &mut bytes);
-    let mut i: usize = 0;
-    while i < s.len() {
-        out[i] = s[i] ^ bytes[i];
-        i += 1;
+    for (i, x) in s.iter().enumerate() {
+        out[i] = *x ^ bytes[i];
     }
 }

@@ -13,9 +13,11 @@ ghost use Rattle.walking.specs.Walking.{walk_call, jump_call};
 ghost use Rattle.store.specs.Store.{format_call, take_call, cancel_call, total_call, read_offset, look_up_call, looked_up};
 ghost use Rattle.sales.specs.Sale.{sale_of};
 
-use answers::Answer;
+use cells::{SaleName, kinds};
+use checks::Terms;
 use sales::Sale;
-use store::LookUp;
+
+// Kept: each call fills its terms itself, since C gives them one by one.
 
 // Seals a message: mode 1 is OPP, 2 is MRO; the output receives the ciphertext and then the tag.
 #[unsafe(no_mangle)]
@@ -30,7 +32,14 @@ pub extern "C" fn calmbaize_seal(
 ) -> u64
     ensures { (result, output.new) ≡ coded (seal_call mode rounds key.now nonce.now header.now input.now output.old) }
 {
-    answers::code(sealing::seal(mode, rounds, key, nonce, header, input, output))
+    let of = Terms {
+        mode,
+        rounds,
+        key,
+        nonce,
+        header,
+    };
+    answers::code(sealing::seal(&of, input, output))
 }
 
 // Opens a parcel; the output receives the message, or zeros in its place where the tag differs.
@@ -46,7 +55,14 @@ pub extern "C" fn calmbaize_open(
 ) -> u64
     ensures { (result, output.new) ≡ coded (open_call mode rounds key.now nonce.now header.now input.now output.old) }
 {
-    answers::code(sealing::open(mode, rounds, key, nonce, header, input, output))
+    let of = Terms {
+        mode,
+        rounds,
+        key,
+        nonce,
+        header,
+    };
+    answers::code(sealing::open(&of, input, output))
 }
 
 // Opens a parcel that was sealed under the old start, that of section 4; no call seals under it.
@@ -62,7 +78,14 @@ pub extern "C" fn calmbaize_open_old(
 ) -> u64
     ensures { (result, output.new) ≡ coded (open_old_call mode rounds key.now nonce.now header.now input.now output.old) }
 {
-    answers::code(sealing::open_old(mode, rounds, key, nonce, header, input, output))
+    let of = Terms {
+        mode,
+        rounds,
+        key,
+        nonce,
+        header,
+    };
+    answers::code(sealing::open_old(&of, input, output))
 }
 
 // Brings a parcel of the old start over to the new one; the output receives a parcel of the same
@@ -79,7 +102,14 @@ pub extern "C" fn calmbaize_convert(
 ) -> u64
     ensures { (result, output.new) ≡ coded (convert_call mode rounds key.now nonce.now header.now input.now output.old) }
 {
-    answers::code(converting::convert(mode, rounds, key, nonce, header, input, output))
+    let of = Terms {
+        mode,
+        rounds,
+        key,
+        nonce,
+        header,
+    };
+    answers::code(converting::convert(&of, input, output))
 }
 
 // Why a parcel won't open under a start, the old one or the new, a mode and a round count: 0 where it does; else
@@ -97,7 +127,14 @@ pub extern "C" fn calmbaize_diagnose(
 ) -> u64
     ensures { result ≡ code_of (reason_told (diagnose_call old_start mode rounds key.now nonce.now header.now input.now)) }
 {
-    let found = diagnosing::diagnose(old_start, mode, rounds, key, nonce, header, input);
+    let of = Terms {
+        mode,
+        rounds,
+        key,
+        nonce,
+        header,
+    };
+    let found = diagnosing::diagnose(old_start, &of, input);
     answers::code(diagnosing::answer_of(found))
 }
 
@@ -116,7 +153,14 @@ pub extern "C" fn calmbaize_seal_run(
 ) -> u64
     ensures { (result, (output.new, words.new)) ≡ coded (seal_run_call mode rounds key.now nonce.now header.now input.now output.old words.old) }
 {
-    answers::code(run_sealing::seal(mode, rounds, key, nonce, header, input, output, words))
+    let of = Terms {
+        mode,
+        rounds,
+        key,
+        nonce,
+        header,
+    };
+    answers::code(run_sealing::seal(&of, input, output, words))
 }
 
 // Opens a parcel from a run of words: with words enough, what calmbaize_open answers and writes; success
@@ -134,7 +178,14 @@ pub extern "C" fn calmbaize_open_run(
 ) -> u64
     ensures { (result, (output.new, words.new)) ≡ coded (open_run_call mode rounds key.now nonce.now header.now input.now output.old words.old) }
 {
-    answers::code(run_sealing::open(mode, rounds, key, nonce, header, input, output, words))
+    let of = Terms {
+        mode,
+        rounds,
+        key,
+        nonce,
+        header,
+    };
+    answers::code(run_sealing::open(&of, input, output, words))
 }
 
 // The block reached from the start by taking each step of the list in turn.
@@ -206,7 +257,7 @@ pub extern "C" fn calmbaize_store_cancel(
 ) -> u64
     ensures { (result, store.new) ≡ coded (cancel_call key.now machine sale store.old) }
 {
-    answers::code(store::cancel(key, store, machine, sale))
+    answers::code(store::cancel(key, store, SaleName { machine, sale }))
 }
 
 // The cash of a store, to the last argument, since it may pass 2^32; answers 0.
@@ -214,13 +265,12 @@ pub extern "C" fn calmbaize_store_cancel(
 pub extern "C" fn calmbaize_store_total(key: &[u8], store: &[u8], total: &mut u64) -> u64
     ensures { (result, total.new) ≡ totalled (total_call key.now store.now) total.old }
 {
-    let answer = store::total(key, store);
-    match answer {
-        Answer::Done(sum) => {
+    match store::total(key, store) {
+        Ok(sum) => {
             *total = sum;
             0
         }
-        Answer::Refused(ground, place) => answers::code(Answer::Refused(ground, place)),
+        Err(found) => answers::code(Err(found)),
     }
 }
 
@@ -229,7 +279,7 @@ pub extern "C" fn calmbaize_store_total(key: &[u8], store: &[u8], total: &mut u6
 pub extern "C" fn calmbaize_store_read(store: &[u8], machine: u32, sale: u32) -> u64
     ensures { result ≡ code_of (read_offset machine sale store.now) }
 {
-    answers::code(store::read_offset(store, machine, sale))
+    answers::code(store::read_offset(store, SaleName { machine, sale }))
 }
 
 // The amount and the listed price of a sale, to the last two arguments; answers its kind: 2, or 1 where it has
@@ -245,17 +295,17 @@ pub extern "C" fn calmbaize_store_look_up(
 ) -> u64
     ensures { (result, (amount.new, price.new)) ≡ looked_up (look_up_call key.now machine sale store.now) amount.old price.old }
 {
-    let found = store::look_up(key, store, machine, sale);
-    match found {
-        LookUp::Priced(paid, listed) => {
-            *amount = paid;
-            *price = listed;
-            2
+    match store::look_up(key, store, SaleName { machine, sale }) {
+        Err(found) => answers::code(Err(found)),
+        Ok(told) => {
+            *amount = told.amount;
+            match told.price {
+                Some(listed) => {
+                    *price = listed;
+                    kinds::PRICED as u64
+                }
+                None => kinds::UNPRICED as u64,
+            }
         }
-        LookUp::Unpriced(paid) => {
-            *amount = paid;
-            1
-        }
-        LookUp::Refused(ground, place) => answers::code(Answer::Refused(ground, place)),
     }
 }

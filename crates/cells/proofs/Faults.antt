@@ -8,13 +8,11 @@ use native.Mathlib.Decide.{dec_lt, ℕ_discrete}
 use lib.Dec.{eqb, ltb}
 use lib.ListN.{length}
 use borrow.Author.Tests.{eq-eqb, ne_eqb, le-ltb, ltb-false, not-false, not-true, eqb-false}
-use Rattle.cells.specs.declared.Stop.{Stop}
-use Rattle.cells.specs.declared.Stop.TheVariants.{End, Broken}
-use Rattle.cells.specs.declared.Fault.{Fault}
-use Rattle.cells.specs.declared.Fault.TheVariants.{Sound, Length, Kind}
+use Rattle.cells.specs.declared.Fault.TheVariants.{Length, Kind}
+use Rattle.std.specs.Prelude.{Ok, Err}
 use Rattle.cells.specs.Chains.{count, is_in, first_from}
 use Rattle.cells.specs.Cells.{cells, first_sale, first_free, next_of, kind_of, kind_fits, length_fits, formed}
-use Rattle.cells.specs.Faults.{walk_of, sales_walk, free_walk, unfit, length_or, broken_or, kind_fault, form_fault, fault_of}
+use Rattle.cells.specs.Faults.{Stop, Finding, ended, sound, walk_of, sales_walk, free_walk, unfit, length_or, broken_or, kind_fault, form_fault, fault_of}
 use Rattle.cells.proofs.Chains.{Linked, In}
 use Rattle.cells.proofs.Form.{Form, long_of, of-long, form_of, of-form}
 use Rattle.cells.proofs.Counts.{count-append, first-all, all_first, in-yes, in-no}
@@ -28,15 +26,15 @@ record Ended (s reached : List ℕ) (at : ℕ) (w : Stop × List ℕ) : Type 0 w
   proper : Proper s w.1
 
 module _ (s reached : List ℕ) (at : ℕ) where
-  ended_here : (w : Stop × List ℕ) → Proper s reached → at ≡ 0 → w ≡ (End, reached) → Ended s reached at w
+  ended_here : (w : Stop × List ℕ) → Proper s reached → at ≡ 0 → w ≡ (ended, reached) → Ended s reached at w
   ended_here w p z e = record { chain = []; whole = ap (λ (x : Stop × List ℕ). x.1) e ∙ sym (append-nil reached); linked = z; proper = rw e p }
 
   ended-on : (w : Stop × List ℕ) → (at ≡ 0 → ⊥) → Ended s (reached ++ (at ∷ [])) (next_of s at) w → Ended s reached at w
   ended-on w z e = record { chain = at ∷ e.chain; whole = e.whole ∙ append_assoc reached (at ∷ []) e.chain; linked = (refl, (omega (arith, z)), e.linked); proper = e.proper }
 
-ended : (s : List ℕ) (n : ℕ) (reached : List ℕ) (from at : ℕ) → Proper s reached → (walk_of s n reached from at).0 ≡ End → Ended s reached at (walk_of s n reached from at)
-ended s =
-    walked s (λ n reached from at w. Proper s reached → w.0 ≡ End → Ended s reached at w) (λ n reached from at z p h. ended_here s reached at (End, reached) p z refl)
+walk-ended : (s : List ℕ) (n : ℕ) (reached : List ℕ) (from at : ℕ) → Proper s reached → (walk_of s n reached from at).0 ≡ ended → Ended s reached at (walk_of s n reached from at)
+walk-ended s =
+    walked s (λ n reached from at w. Proper s reached → w.0 ≡ ended → Ended s reached at w) (λ n reached from at z p h. ended_here s reached at (ended, reached) p z refl)
     (λ n reached from at z o p h. absurd (let q : ◌≡◌ {A = ℕ} 0 1 = cc in omega arith))
     (λ n reached from at w z l k ih p h. ended-on s reached at w z (ih (proper-on s reached at p z l k) h))
 
@@ -53,8 +51,8 @@ fresh-inside s reached c l p =
     )
 
 -- a chain whose cells lie inside and were not reached is walked to its end
-followed : (s : List ℕ) (n : ℕ) (reached : List ℕ) (from at : ℕ) (l : List ℕ) → Linked (next_of s) at l → Proper s (reached ++ l) → length l ≤ n → walk_of s n reached from at ≡ (End, reached ++ l)
-followed s n reached from at [] k p h = walk_end s n reached from at k ∙ ap (λ (x : List ℕ). (End, x)) (sym (append-nil reached))
+followed : (s : List ℕ) (n : ℕ) (reached : List ℕ) (from at : ℕ) (l : List ℕ) → Linked (next_of s) at l → Proper s (reached ++ l) → length l ≤ n → walk_of s n reached from at ≡ (ended, reached ++ l)
+followed s n reached from at [] k p h = walk_end s n reached from at k ∙ ap (λ (x : List ℕ). (ended, x)) (sym (append-nil reached))
 followed s zero reached from at (c ∷ l) k p h = absurd (omega arith)
 followed s (suc n) reached from at (c ∷ l) k p h =
     let f = fresh-inside s reached c l p in
@@ -62,22 +60,22 @@ followed s (suc n) reached from at (c ∷ l) k p h =
     rw (k.0, walk-on s n reached from c f.0 f.1.0 f.1.1, followed s n (reached ++ (c ∷ [])) c (next_of s c) l k.2 (rw g p) (omega arith), g)
 
 -- the checks, one by one
-broken-sound : (w : Stop) (f : Fault) → broken_or w f ≡ Sound → (w ≡ End) × (f ≡ Sound)
+broken-sound : (w : Stop) (f : Finding) → broken_or w f ≡ sound → (w ≡ ended) × (f ≡ sound)
 unfolding broken_or
-broken-sound End f h = (refl, h)
-broken-sound (Broken c) f h = absurd (let z : ◌≡◌ {A = ℕ} 0 1 = cc in omega arith)
+broken-sound (Ok none) f h = (refl, h)
+broken-sound (Err c) f h = absurd (let z : ◌≡◌ {A = ℕ} 0 1 = cc in omega arith)
 
-kind-sound : (n c : ℕ) → kind_fault n c ≡ Sound → n ≤ c
+kind-sound : (n c : ℕ) → kind_fault n c ≡ sound → n ≤ c
 unfolding kind_fault
 kind-sound n c h = by_test (ltb c n) refl h where
-  by_test : (t : Bool) → ltb c n ≡ t → cond t (Kind c) Sound ≡ Sound → n ≤ c
+  by_test : (t : Bool) → ltb c n ≡ t → cond t (Err (Kind c)) sound ≡ sound → n ≤ c
   by_test true e g = absurd (let z : ◌≡◌ {A = ℕ} 0 1 = cc in omega arith)
   by_test false e g = ltb-false c n e
 
-fault-sound : (s : List ℕ) → fault_of s ≡ Sound → (length_fits s ≡ true) × (form_fault s ≡ Sound)
+fault-sound : (s : List ℕ) → fault_of s ≡ sound → (length_fits s ≡ true) × (form_fault s ≡ sound)
 unfolding fault_of length_or
 fault-sound s h = by_test (length_fits s) h where
-  by_test : (t : Bool) → cond t (form_fault s) Length ≡ Sound → (t ≡ true) × (form_fault s ≡ Sound)
+  by_test : (t : Bool) → cond t (form_fault s) (Err Length) ≡ sound → (t ≡ true) × (form_fault s ≡ sound)
   by_test true g = (refl, g)
   by_test false g = absurd (let z : ◌≡◌ {A = ℕ} 0 1 = cc in omega arith)
 
@@ -88,8 +86,8 @@ or-false false b h = (refl, h)
 inside-below : (n c : ℕ) → 0 < inside n c → c < n
 inside-below n c h = elim (dec_lt c n) [ yes p ↦ p | no q ↦ absurd (omega (arith, inside_past n c (omega arith))) ]
 
-module _ (s : List ℕ) (h : fault_of s ≡ Sound) where
-  ends : ((sales_walk s).0 ≡ End) × (((free_walk s).0 ≡ End) × (cells s ≤ first_from (unfit s (sales_walk s).1 (free_walk s).1) 1 (cells s - 1)))
+module _ (s : List ℕ) (h : fault_of s ≡ sound) where
+  ends : ((sales_walk s).0 ≡ ended) × (((free_walk s).0 ≡ ended) × (cells s ≤ first_from (unfit s (sales_walk s).1 (free_walk s).1) 1 (cells s - 1)))
   unfolding form_fault
   ends =
       let b = broken-sound (sales_walk s).0 _ (fault-sound s h).1 in
@@ -98,11 +96,11 @@ module _ (s : List ℕ) (h : fault_of s ≡ Sound) where
 
   of-sales : Ended s [] (first_sale s) (sales_walk s)
   unfolding sales_walk
-  of-sales = ended s (cells s) [] 0 (first_sale s) (proper-nil s) ends.0
+  of-sales = walk-ended s (cells s) [] 0 (first_sale s) (proper-nil s) ends.0
 
   of-free : Ended s (sales_walk s).1 (first_free s) (free_walk s)
   unfolding free_walk
-  of-free = ended s (cells s) (sales_walk s).1 0 (first_free s) of-sales.proper ends.1.0
+  of-free = walk-ended s (cells s) (sales_walk s).1 0 (first_free s) of-sales.proper ends.1.0
 
   cs : List ℕ
   cs = (sales_walk s).1
@@ -178,11 +176,11 @@ module _ (s cs fs : List ℕ) (f : Form s cs fs) where
   unfolding Proper
   proper-free c = omega (arith, within_both c)
 
-  sales-walk : sales_walk s ≡ (End, cs)
+  sales-walk : sales_walk s ≡ (ended, cs)
   unfolding sales_walk
   sales-walk = followed s (cells s) [] 0 (first_sale s) cs f.sold proper-sales (short s cs proper-sales)
 
-  free-walk : free_walk s ≡ (End, cs ++ fs)
+  free-walk : free_walk s ≡ (ended, cs ++ fs)
   unfolding free_walk
   free-walk = rw sales-walk (followed s (cells s) cs 0 (first_free s) fs f.spare proper-both (short s fs proper-free))
 
@@ -200,11 +198,11 @@ module _ (s cs fs : List ℕ) (f : Form s cs fs) where
       let e = f.cover c l in
       rw (kind-fits c l z, in-yes c (cs ++ fs) (omega (arith, count-append c cs fs, rw (ne_eqb c 0 z) at e)))
 
-  pub form-sound : fault_of s ≡ Sound
+  pub form-sound : fault_of s ≡ sound
   unfolding fault_of length_or form_fault broken_or kind_fault
   form-sound =
       rw (of-long s f.size, sales-walk, free-walk, le-ltb (first_from (unfit s cs (cs ++ fs)) 1 (cells s - 1)) (cells s) (omega (arith, all_first (unfit s cs (cs ++ fs)) 1 (cells s - 1) all_fit)))
 
 -- a store has no fault exactly where its form is as said
-pub formed-sound : (s : List ℕ) → formed s ≡ true → fault_of s ≡ Sound
+pub formed-sound : (s : List ℕ) → formed s ≡ true → fault_of s ≡ sound
 formed-sound s e = form-sound s _ _ (form_of s e)

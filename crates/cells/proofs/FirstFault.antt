@@ -6,15 +6,12 @@ use Prim.Native.Nat.{ℕ, ◌-◌, ◌<◌, ◌^◌}
 use native.Mathlib.Omega.{arith}
 use lib.Dec.{ltb, lit<}
 use borrow.Author.Tests.{ltb-true}
-use Rattle.answers.specs.declared.Check.{Check}
-use Rattle.answers.specs.declared.Check.TheVariants.{Clear}
+use Rattle.std.specs.Prelude.{Ok, Err}
+use Rattle.answers.specs.Answers.{Check, clear}
 use Rattle.answers.proofs.Values.{place_of, after}
-use Rattle.cells.specs.declared.Stop.{Stop}
-use Rattle.cells.specs.declared.Stop.TheVariants.{End, Broken}
-use Rattle.cells.specs.declared.Fault.{Fault}
-use Rattle.cells.specs.declared.Fault.TheVariants.{Sound, Length, Index, Kind}
+use Rattle.cells.specs.declared.Fault.TheVariants.{Length, Index, Kind}
 use Rattle.cells.specs.Cells.{cells, first_sale, first_free, length_fits, formed}
-use Rattle.cells.specs.Faults.{sales_walk, free_walk, unfit, length_or, broken_or, kind_fault, form_fault, fault_of, fault_check}
+use Rattle.cells.specs.Faults.{Stop, Finding, sound, sales_walk, free_walk, unfit, length_or, broken_or, kind_fault, form_fault, fault_of, fault_check}
 use Rattle.cells.specs.FirstFault.{FirstFault}
 use Rattle.cells.proofs.Form.{long_of}
 use Rattle.cells.proofs.Counts.{first-low}
@@ -24,14 +21,14 @@ use Rattle.cells.proofs.Faults.{sound-formed, formed-sound}
 -- ---- the check of a fault
 
 -- nothing is found exactly where there is no fault
-pub check_sound : (f : Fault) (next : Check) → fault_check f next ≡ Clear → (f ≡ Sound) × (next ≡ Clear)
+pub check_sound : (f : Finding) (next : Check) → fault_check f next ≡ clear → (f ≡ sound) × (next ≡ clear)
 unfolding fault_check
-check_sound Sound next e = (refl, e)
-check_sound Length next e = absurd (let q : ◌≡◌ {A = ℕ} 0 1 = cc in omega arith)
-check_sound (Index c) next e = absurd (let q : ◌≡◌ {A = ℕ} 0 1 = cc in omega arith)
-check_sound (Kind c) next e = absurd (let q : ◌≡◌ {A = ℕ} 0 1 = cc in omega arith)
+check_sound (Ok none) next e = (refl, e)
+check_sound (Err Length) next e = absurd (let q : ◌≡◌ {A = ℕ} 0 1 = cc in omega arith)
+check_sound (Err (Index c)) next e = absurd (let q : ◌≡◌ {A = ℕ} 0 1 = cc in omega arith)
+check_sound (Err (Kind c)) next e = absurd (let q : ◌≡◌ {A = ℕ} 0 1 = cc in omega arith)
 
-pub check-formed : (s : List ℕ) (next : Check) → fault_check (fault_of s) next ≡ Clear → (formed s ≡ true) × (next ≡ Clear)
+pub check-formed : (s : List ℕ) (next : Check) → fault_check (fault_of s) next ≡ clear → (formed s ≡ true) × (next ≡ clear)
 check-formed s next e = let h = check_sound (fault_of s) next e in (sound-formed s h.0, h.1)
 
 pub formed-check : (s : List ℕ) (next : Check) → formed s ≡ true → fault_check (fault_of s) next ≡ next
@@ -39,47 +36,47 @@ unfolding fault_check
 formed-check s next e = rw (formed-sound s e)
 
 -- the checks behind it decide where it finds nothing
-pub check-after : (f : Fault) (next : Check) → fault_check f next ≡ after (fault_check f Clear) next
+pub check-after : (f : Finding) (next : Check) → fault_check f next ≡ after (fault_check f clear) next
 unfolding fault_check after
-check-after Sound next = refl
-check-after Length next = refl
-check-after (Index c) next = refl
-check-after (Kind c) next = refl
+check-after (Ok none) next = refl
+check-after (Err Length) next = refl
+check-after (Err (Index c)) next = refl
+check-after (Err (Kind c)) next = refl
 
 -- of the length alone
-pub length-clear : (s : List ℕ) → fault_check (length_or s Sound) Clear ≡ Clear → length_fits s ≡ true
+pub length-clear : (s : List ℕ) → fault_check (length_or s sound) clear ≡ clear → length_fits s ≡ true
 unfolding length_or
-length-clear s e = go (length_fits s) (check_sound _ Clear e).0 where
-  go : (t : Bool) → cond t Sound Length ≡ Sound → t ≡ true
+length-clear s e = go (length_fits s) (check_sound _ clear e).0 where
+  go : (t : Bool) → cond t sound (Err Length) ≡ sound → t ≡ true
   go true q = refl
   go false q = absurd (let z : ◌≡◌ {A = ℕ} 0 1 = cc in omega arith)
 
-pub length-place : (s : List ℕ) → place_of (fault_check (length_or s Sound) Clear) ≡ 0
+pub length-place : (s : List ℕ) → place_of (fault_check (length_or s sound) clear) ≡ 0
 unfolding length_or fault_check
 length-place s = go (length_fits s) where
-  go : (t : Bool) → place_of (fault_check (cond t Sound Length) Clear) ≡ 0
+  go : (t : Bool) → place_of (fault_check (cond t sound (Err Length)) clear) ≡ 0
   go true = refl
   go false = refl
 
 -- ---- its cell
 
 -- the cell of a fault, where it has one, is a cell of n, which are few; and that of a kind never cell 0
-unfoldable Among : ℕ → Fault → Type 0
-Among n Sound = Unit {0}
-Among n Length = Unit {0}
-Among n (Index c) = (c < n) × (n < 2 ^ 32)
-Among n (Kind c) = ((0 < c) × (c < n)) × (n < 2 ^ 32)
+unfoldable Among : ℕ → Finding → Type 0
+Among n (Ok none) = Unit {0}
+Among n (Err Length) = Unit {0}
+Among n (Err (Index c)) = (c < n) × (n < 2 ^ 32)
+Among n (Err (Kind c)) = ((0 < c) × (c < n)) × (n < 2 ^ 32)
 
 module _ (n : ℕ) (few : n < 2 ^ 32) where
-  broken-among : (w : Stop) (f : Fault) → stop_cell w < n → Among n f → Among n (broken_or w f)
+  broken-among : (w : Stop) (f : Finding) → stop_cell w < n → Among n f → Among n (broken_or w f)
   unfolding stop_cell broken_or Among
-  broken-among End f a b = b
-  broken-among (Broken c) f a b = (a, few)
+  broken-among (Ok none) f a b = b
+  broken-among (Err c) f a b = (a, few)
 
   kind-among : (c : ℕ) → 0 < c → Among n (kind_fault n c)
   unfolding kind_fault Among
   kind-among c o = by_test (ltb c n) refl where
-    by_test : (t : Bool) → ltb c n ≡ t → Among n (cond t (Kind c) Sound)
+    by_test : (t : Bool) → ltb c n ≡ t → Among n (cond t (Err (Kind c)) sound)
     by_test true e = ((o, ltb-true c n e), few)
     by_test false e = tt
 
@@ -94,7 +91,7 @@ fault-among s = by_length (length_fits s) refl where
       broken-among (cells s) few _ _ (walk-low s (cells s) [] 0 (first_sale s) o)
       (broken-among (cells s) few _ _ (walk-low s (cells s) (sales_walk s).1 0 (first_free s) o) (kind-among (cells s) few _ (omega (arith, first-low (unfit s (sales_walk s).1 (free_walk s).1) 1 (cells s - 1)))))
 
-  by_length : (t : Bool) → length_fits s ≡ t → Among (cells s) (cond t (form_fault s) Length)
+  by_length : (t : Bool) → length_fits s ≡ t → Among (cells s) (cond t (form_fault s) (Err Length))
   by_length true e = inside e
   by_length false e = tt
 
@@ -102,20 +99,20 @@ fault-among s = by_length (length_fits s) refl where
 pub check-place : (s : List ℕ) (next : Check) → (formed s ≡ true → place_of next < 2 ^ 32) → place_of (fault_check (fault_of s) next) < 2 ^ 32
 unfolding fault_check Among
 check-place s next h = go (fault_of s) refl (fault-among s) where
-  go : (f : Fault) → fault_of s ≡ f → Among (cells s) f → place_of (fault_check f next) < 2 ^ 32
-  go Sound e a = h (sound-formed s e)
-  go Length e a = lit< tt
-  go (Index c) e a = omega (arith, a.0, a.1)
-  go (Kind c) e a = omega (arith, a.0.1, a.1)
+  go : (f : Finding) → fault_of s ≡ f → Among (cells s) f → place_of (fault_check f next) < 2 ^ 32
+  go (Ok none) e a = h (sound-formed s e)
+  go (Err Length) e a = lit< tt
+  go (Err (Index c)) e a = omega (arith, a.0, a.1)
+  go (Err (Kind c)) e a = omega (arith, a.0.1, a.1)
 
 pub first-fault : FirstFault
 unfolding Among sales_walk free_walk
 first-fault = record {
-  clear-formed = λ s e. (check-formed s Clear e).0;
-  formed-clear = λ s e. formed-check s Clear e;
+  clear-formed = λ s e. (check-formed s clear e).0;
+  formed-clear = λ s e. formed-check s clear e;
   index-cell = λ s c e. (rw e at (fault-among s)).0;
   kind-cell = λ s c e. (rw e at (fault-among s)).0;
-  place-low = λ s g at e. rw e at (check-place s Clear (λ f. lit< tt));
+  place-low = λ s g at e. rw e at (check-place s clear (λ f. lit< tt));
   sales-steps = λ s more. walk-enough s more (cells s) [] 0 (first_sale s) (proper-nil s) (omega arith);
   free-steps = λ s more. walk-enough s more (cells s) (sales_walk s).1 0 (first_free s) (walk-proper s (cells s) [] 0 (first_sale s) (proper-nil s)) (omega arith);
 }

@@ -1,5 +1,4 @@
 pub mod Numbers
-mod Links
 pub mod Chains
 pub mod Counts
 pub mod Form

@@ -10,29 +10,28 @@ use lib.ListN.{length, length-append}
 use borrow.Author.Tests.{eq-eqb, ne_eqb, le-leb, lt-leb, lt-ltb, le-ltb}
 use Rattle.cells.specs.Chains.{count}
 use Rattle.cells.specs.Cells.{cells, next_of}
-use Rattle.cells.specs.Faults.{walk_of}
-use Rattle.cells.specs.declared.Stop.{Stop}
-use Rattle.cells.specs.declared.Stop.TheVariants.{End, Broken}
+use Rattle.std.specs.Prelude.{Ok, Err}
+use Rattle.cells.specs.Faults.{Stop, ended, walk_of}
 use Rattle.cells.proofs.Counts.{count-last, in-yes, in-no}
 use Rattle.cells.proofs.Chains.{pigeonhole}
 
 -- ---- one step
 
-pub walk_end : (s : List ℕ) (n : ℕ) (reached : List ℕ) (from at : ℕ) → at ≡ 0 → walk_of s n reached from at ≡ (End, reached)
+pub walk_end : (s : List ℕ) (n : ℕ) (reached : List ℕ) (from at : ℕ) → at ≡ 0 → walk_of s n reached from at ≡ (ended, reached)
 unfolding walk_of
 walk_end s zero reached from at e = rw (eq-eqb at 0 e)
 walk_end s (suc n) reached from at e = rw (eq-eqb at 0 e)
 
-walk-out : (s reached : List ℕ) (from at : ℕ) → (at ≡ 0 → ⊥) → walk_of s zero reached from at ≡ (Broken from, reached)
+walk-out : (s reached : List ℕ) (from at : ℕ) → (at ≡ 0 → ⊥) → walk_of s zero reached from at ≡ (Err from, reached)
 unfolding walk_of
 walk-out s reached from at z = rw (ne_eqb at 0 z)
 
-pub walk-past : (s : List ℕ) (n : ℕ) (reached : List ℕ) (from at : ℕ) → (at ≡ 0 → ⊥) → cells s ≤ at → walk_of s n reached from at ≡ (Broken from, reached)
+pub walk-past : (s : List ℕ) (n : ℕ) (reached : List ℕ) (from at : ℕ) → (at ≡ 0 → ⊥) → cells s ≤ at → walk_of s n reached from at ≡ (Err from, reached)
 unfolding walk_of
 walk-past s zero reached from at z h = rw (ne_eqb at 0 z)
 walk-past s (suc n) reached from at z h = rw (ne_eqb at 0 z, le-leb (cells s) at h)
 
-pub walk-twice : (s : List ℕ) (n : ℕ) (reached : List ℕ) (from at : ℕ) → (at ≡ 0 → ⊥) → at < cells s → (count at reached ≡ 0 → ⊥) → walk_of s n reached from at ≡ (Broken from, reached)
+pub walk-twice : (s : List ℕ) (n : ℕ) (reached : List ℕ) (from at : ℕ) → (at ≡ 0 → ⊥) → at < cells s → (count at reached ≡ 0 → ⊥) → walk_of s n reached from at ≡ (Err from, reached)
 unfolding walk_of
 walk-twice s zero reached from at z l h = rw (ne_eqb at 0 z)
 walk-twice s (suc n) reached from at z l h = rw (ne_eqb at 0 z, lt-leb (cells s) at l, in-yes at reached (omega (arith, h)))
@@ -43,8 +42,8 @@ walk-on s n reached from at z l h = rw (ne_eqb at 0 z, lt-leb (cells s) at l, in
 
 -- a claim about every walk: it holds of each that stops at once, and of one with a step more wherever of the one behind that step. A walk that is stopped though its index is a cell not reached before has no step left
 pub walked : (s : List ℕ) (P : ℕ → List ℕ → ℕ → ℕ → Stop × List ℕ → Type 0)
-    → ((n : ℕ) (reached : List ℕ) (from at : ℕ) → at ≡ 0 → P n reached from at (End, reached))
-    → ((n : ℕ) (reached : List ℕ) (from at : ℕ) → (at ≡ 0 → ⊥) → (at < cells s → count at reached ≡ 0 → n ≡ 0) → P n reached from at (Broken from, reached))
+    → ((n : ℕ) (reached : List ℕ) (from at : ℕ) → at ≡ 0 → P n reached from at (ended, reached))
+    → ((n : ℕ) (reached : List ℕ) (from at : ℕ) → (at ≡ 0 → ⊥) → (at < cells s → count at reached ≡ 0 → n ≡ 0) → P n reached from at (Err from, reached))
     → ((n : ℕ) (reached : List ℕ) (from at : ℕ) (w : Stop × List ℕ) → (at ≡ 0 → ⊥) → at < cells s → count at reached ≡ 0 → P n (reached ++ (at ∷ [])) at (next_of s at) w → P (suc n) reached from at w)
     → (n : ℕ) (reached : List ℕ) (from at : ℕ) → P n reached from at (walk_of s n reached from at)
 walked s P end broken on zero reached from at = elim (ℕ_discrete at 0) [
@@ -142,7 +141,7 @@ walk-enough s more =
     let e : suc n + more ≡ suc (n + more) = omega arith in
     ap (λ (t : ℕ). walk_of s t reached from at) e ∙ walk-on s (n + more) reached from at z l k ∙ ih (proper-on s reached at p z l k) (omega (arith, length-append reached (at ∷ []))))
   where
-    stopped : (n : ℕ) (reached : List ℕ) (from at : ℕ) → (at ≡ 0 → ⊥) → (at < cells s → count at reached ≡ 0 → n ≡ 0) → Proper s reached → cells s ≤ n + length reached + 1 → walk_of s (n + more) reached from at ≡ (Broken from, reached)
+    stopped : (n : ℕ) (reached : List ℕ) (from at : ℕ) → (at ≡ 0 → ⊥) → (at < cells s → count at reached ≡ 0 → n ≡ 0) → Proper s reached → cells s ≤ n + length reached + 1 → walk_of s (n + more) reached from at ≡ (Err from, reached)
     stopped n reached from at z o p h = elim (dec_lt at (cells s)) [
       | no l ↦ walk-past s (n + more) reached from at z (omega arith)
       | yes l ↦ elim (ℕ_discrete (count at reached) 0) [
@@ -155,8 +154,8 @@ walk-enough s more =
 
 -- the cell of a stop; 0 where there is none
 unfoldable pub stop_cell : Stop → ℕ
-stop_cell End = 0
-stop_cell (Broken c) = c
+stop_cell (Ok none) = 0
+stop_cell (Err c) = c
 
 pub walk-low : (s : List ℕ) (n : ℕ) (reached : List ℕ) (from at : ℕ) → from < cells s → stop_cell (walk_of s n reached from at).0 < cells s
 unfolding stop_cell

@@ -8,18 +8,18 @@ use native.Mathlib.Omega.{arith}
 use native.Mathlib.Decide.{dec_lt, ℕ_discrete}
 use lib.ListN.{length, get_or, replicate, length-replicate, get_or-replicate, get_or-eq_default}
 use Rattle.chains.specs.declared.MarkedWalk.{MarkedWalk}
-use Rattle.cells.specs.declared.Stop.TheVariants.{End, Broken}
-use Rattle.cells.specs.declared.Fault.TheVariants.{Index}
+use Rattle.std.specs.Prelude.{Result, Ok, Err}
+use Rattle.cells.specs.declared.Fault.{Fault}
 use Rattle.cells.specs.Numbers.{number_at}
 use Rattle.cells.specs.Chains.{count, is_in, first_from}
 use Rattle.cells.specs.Cells.{cells, first_sale, first_free, kind_of, kind_fits}
-use Rattle.cells.specs.Faults.{walk_of, sales_walk, free_walk, unfit, broken_or, kind_fault, form_fault}
+use Rattle.cells.specs.Faults.{walk_of, sales_walk, free_walk, unfit, Stop, Finding, sound, broken_or, kind_fault, form_fault}
 use Rattle.chains.specs.Marks.{Marks, Unreached, FirstMisfit, Walked, bit_at, is_marked, unmarked}
 use Rattle.cells.proofs.Counts.{all_first, first-ext, first-or, first-is, in-yes, in-no}
 use Rattle.chains.proofs.Bits.{bits_none, unreached-none}
 
 -- what a walk promises
-abbrev pub Walks : List ℕ → List ℕ → ℕ → Bool → ℕ → MarkedWalk → List ℕ → Type 0
+abbrev pub Walks : List ℕ → List ℕ → ℕ → Bool → ℕ → Result MarkedWalk Fault → List ℕ → Type 0
 Walks s m i sold k r n = (fits : ℕ → Bool) (reached : List ℕ) → Marks m reached → FirstMisfit fits reached (cells s) k → ((c : ℕ) → count c reached ≡ 0 → fits c ≡ kind_fits sold (kind_of s c)) → Walked fits (cells s) r n (walk_of s (cells s) reached 0 i)
 
 -- the tests of the kinds: of the sales, and of all once the sales are known
@@ -29,7 +29,7 @@ sold_fits s c = kind_fits true (kind_of s c)
 abbrev pub each_fits : List ℕ → ℕ → Bool
 each_fits s c = kind_fits (is_in c (sales_walk s).1) (kind_of s c)
 
-pub sales-walked : (s m n : List ℕ) (i : ℕ) (r : MarkedWalk) → i ≡ number_at 2 0 s → Walks s m i true (cells s) r n → Marks m [] → Walked (sold_fits s) (cells s) r n (sales_walk s)
+pub sales-walked : (s m n : List ℕ) (i : ℕ) (r : Result MarkedWalk Fault) → i ≡ number_at 2 0 s → Walks s m i true (cells s) r n → Marks m [] → Walked (sold_fits s) (cells s) r n (sales_walk s)
 unfolding sales_walk first_sale count
 sales-walked s m n i r e w h = rw e at (w (sold_fits s) [] h (record { most = omega arith; least = λ c a b. absurd (omega arith); found = λ a. absurd (omega arith) }) (λ c a. refl))
 
@@ -41,23 +41,35 @@ misfit-all s n k g = record {
   found = λ a. ((g.found a).0, rw (in-yes k (sales_walk s).1 (g.found a).0) (g.found a).1);
 }
 
-pub free-walked : (s m n : List ℕ) (i : ℕ) (q r : MarkedWalk) → i ≡ number_at 2 2 s → Walks s m i false q.lowest r n → Walked (sold_fits s) (cells s) q m (sales_walk s) → Walked (each_fits s) (cells s) r n (free_walk s)
+pub free-walked : (s m n : List ℕ) (i : ℕ) (q : MarkedWalk) (r : Result MarkedWalk Fault) → i ≡ number_at 2 2 s → Walks s m i false q.lowest r n → Walked (sold_fits s) (cells s) (Ok q) m (sales_walk s) → Walked (each_fits s) (cells s) r n (free_walk s)
 unfolding free_walk first_free
 free-walked s m n i q r e w h = rw e at (w (each_fits s) (sales_walk s).1 h.marks (misfit-all s (cells s) q.lowest h.lowest) (λ c a. rw (in-no c (sales_walk s).1 a)))
 
-pub broken-sales : (s m : List ℕ) (r : MarkedWalk) (c : ℕ) → Walked (sold_fits s) (cells s) r m (sales_walk s) → r.stop ≡ Broken c → Index c ≡ form_fault s
-unfolding form_fault broken_or
-broken-sales s m r c w e = rw (sym w.stop ∙ e)
+-- a walk that was stopped decides, whatever follows
+broken-next : (w : Stop) (f : Fault) (next : Finding) → Err f ≡ broken_or w sound → Err f ≡ broken_or w next
+unfolding broken_or
+broken-next (Ok none) f next e = absurd (let z : ◌≡◌ {A = ℕ} 0 1 = cc in omega arith)
+broken-next (Err c) f next e = e
+
+-- behind one that came to its end the next decides
+ended-next : (w : Stop) (next : Finding) → sound ≡ broken_or w sound → broken_or w next ≡ next
+unfolding broken_or
+ended-next (Ok none) next e = refl
+ended-next (Err c) next e = absurd (let z : ◌≡◌ {A = ℕ} 0 1 = cc in omega arith)
+
+pub broken-sales : (s m : List ℕ) (f : Fault) → Walked (sold_fits s) (cells s) (Err f) m (sales_walk s) → Err f ≡ form_fault s
+unfolding form_fault
+broken-sales s m f w = broken-next _ f _ w.stop
+
+pub broken-free : (s m n : List ℕ) (q : MarkedWalk) (f : Fault) → Walked (sold_fits s) (cells s) (Ok q) m (sales_walk s) → Walked (each_fits s) (cells s) (Err f) n (free_walk s) → Err f ≡ form_fault s
+unfolding form_fault
+broken-free s m n q f v w = broken-next _ f _ w.stop ∙ sym (ended-next _ _ v.stop)
 
 -- a cell that was reached and does not fit
 bad : List ℕ → List ℕ → ℕ → Bool
 bad s reached c = is_in c reached && not (each_fits s c)
 
-module _ (s m n : List ℕ) (q r : MarkedWalk) (v : Walked (sold_fits s) (cells s) q m (sales_walk s)) (d : q.stop ≡ End) (w : Walked (each_fits s) (cells s) r n (free_walk s)) where
-  pub broken-free : (c : ℕ) → r.stop ≡ Broken c → Index c ≡ form_fault s
-  unfolding form_fault broken_or
-  broken-free c e = rw (sym v.stop ∙ d, sym w.stop ∙ e)
-
+module _ (s m n : List ℕ) (q r : MarkedWalk) (v : Walked (sold_fits s) (cells s) (Ok q) m (sales_walk s)) (w : Walked (each_fits s) (cells s) (Ok r) n (free_walk s)) where
   pub misfit-low : bit_at n 0 ≡ 0 → 1 ≤ cells s → 1 ≤ r.lowest
   misfit-low h a = elim (ℕ_discrete r.lowest 0) [
     | yes z ↦
@@ -85,12 +97,12 @@ module _ (s m n : List ℕ) (q r : MarkedWalk) (v : Walked (sold_fits s) (cells 
   unfolding bad unmarked is_marked unfit is_in
   unfit-is c = rw (w.marks.each c) (same-unfit (is_in c (free_walk s).1) (each_fits s c))
 
-  pub last-check : (at : ℕ) → r.stop ≡ End → 1 ≤ r.lowest → at ≡ first_from (unmarked n) 1 (r.lowest - 1) → kind_fault (cells s) at ≡ form_fault s
-  unfolding form_fault broken_or
-  last-check at e a b =
-      rw (sym v.stop ∙ d, sym w.stop ∙ e)
-      (ap (kind_fault (cells s)) (b ∙ ap (λ (k : ℕ). first_from (unmarked n) 1 (k - 1)) (sym (misfit-first a)) ∙ first-or (bad s (free_walk s).1) (unmarked n) 1 (cells s - 1)
-      ∙ first-ext (λ c. bad s (free_walk s).1 c || unmarked n c) (unfit s (sales_walk s).1 (free_walk s).1) 1 (cells s - 1) unfit-is))
+  pub last-check : (at : ℕ) → 1 ≤ r.lowest → at ≡ first_from (unmarked n) 1 (r.lowest - 1) → kind_fault (cells s) at ≡ form_fault s
+  unfolding form_fault
+  last-check at a b =
+      ap (kind_fault (cells s)) (b ∙ ap (λ (k : ℕ). first_from (unmarked n) 1 (k - 1)) (sym (misfit-first a)) ∙ first-or (bad s (free_walk s).1) (unmarked n) 1 (cells s - 1)
+      ∙ first-ext (λ c. bad s (free_walk s).1 c || unmarked n c) (unfit s (sales_walk s).1 (free_walk s).1) 1 (cells s - 1) unfit-is)
+      ∙ sym (ended-next _ _ v.stop ∙ ended-next _ _ w.stop)
 
 -- where there is no room, none is unmarked
 pub first-all-marked : (m : List ℕ) (n e : ℕ) → e ≤ n → n ≤ 64 * length m → 1 ≤ e → Unreached n m 0 → first_from (unmarked m) 1 (e - 1) ≡ e

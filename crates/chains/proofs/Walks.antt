@@ -7,11 +7,12 @@ use native.Mathlib.Omega.{arith}
 use native.Mathlib.Decide.{dec_lt, ℕ_discrete}
 use lib.Dec.{ltb}
 use borrow.Author.Tests.{eq-eqb, ne_eqb, lt-ltb, le-ltb}
-use Rattle.cells.specs.declared.Stop.{Stop}
+use Rattle.std.specs.Prelude.{Ok, Err}
 use Rattle.chains.specs.declared.MarkedWalk.{MarkedWalk}
 use Rattle.cells.specs.Chains.{count}
 use Rattle.cells.specs.Cells.{cells, next_of, kind_of, kind_fits}
-use Rattle.cells.specs.Faults.{walk_of}
+use Rattle.cells.specs.declared.Fault.TheVariants.{Index}
+use Rattle.cells.specs.Faults.{Stop, ended, sound, broken_or, walk_of}
 use Rattle.chains.specs.Marks.{Marks, FirstMisfit, Walked, bit_at, marked}
 use lib.ListN.{length}
 use Rattle.cells.proofs.Counts.{count-last}
@@ -28,13 +29,23 @@ pub record On (fits : ℕ → Bool) (s m : List ℕ) (sold : Bool) (left lowest 
   pub fresh : (c : ℕ) → count c reached ≡ 0 → fits c ≡ kind_fits sold (kind_of s c)
   pub rest : w ≡ walk_of s steps reached from at
 
--- and stops here
+-- and ends here
 pub arrived : (fits : ℕ → Bool) (s m : List ℕ) (sold : Bool) (left lowest from at : ℕ) (w : Stop × List ℕ) (r : MarkedWalk) (o : On fits s m sold left lowest from at w)
-    → walk_of s o.steps o.reached from at ≡ (r.stop, o.reached) → r.lowest ≡ lowest → Walked fits (cells s) r m w
+    → walk_of s o.steps o.reached from at ≡ (ended, o.reached) → r.lowest ≡ lowest → Walked fits (cells s) (Ok r) m w
+unfolding broken_or
 arrived fits s m sold left lowest from at w r o e k =
-    let h : w ≡ (r.stop, o.reached) = o.rest ∙ e in
+    let h : w ≡ (ended, o.reached) = o.rest ∙ e in
     let l : w.1 ≡ o.reached = ap (λ (x : Stop × List ℕ). x.1) h in
-    record { stop = sym (ap (λ (x : Stop × List ℕ). x.0) h); marks = rw l o.marks; lowest = rw (l, k) o.least }
+    record { stop = sym (ap (λ (x : Stop × List ℕ). broken_or x.0 sound) h); marks = rw l o.marks; lowest = rw (l, k) o.least }
+
+-- or is stopped here
+pub stopped : (fits : ℕ → Bool) (s m : List ℕ) (sold : Bool) (left lowest from at : ℕ) (w : Stop × List ℕ) (o : On fits s m sold left lowest from at w)
+    → walk_of s o.steps o.reached from at ≡ (Err from, o.reached) → Walked fits (cells s) (Err (Index from)) m w
+unfolding broken_or
+stopped fits s m sold left lowest from at w o e =
+    let h : w ≡ (Err from, o.reached) = o.rest ∙ e in
+    let l : w.1 ≡ o.reached = ap (λ (x : Stop × List ℕ). x.1) h in
+    record { stop = sym (ap (λ (x : Stop × List ℕ). broken_or x.0 sound) h); marks = rw l o.marks; lowest = tt }
 
 -- the smaller of a misfit and the one lowest is lowest
 pub misfit-more : (fits : ℕ → Bool) (reached : List ℕ) (n k at d : ℕ) → FirstMisfit fits reached n k → at < n → d ≡ cond (not (fits at)) (cond (ltb at k) at k) k → FirstMisfit fits (reached ++ (at ∷ [])) n d

@@ -1,7 +1,8 @@
 -- One bit for each cell, in words of 64: the marks that the code keeps of the cells reached; what functions promise each other. Assumes nothing.
-use Rattle.std.specs.Prelude.{◌≡◌, Bool, true, false, not, List, ℕ, zero, suc, ◌+◌, ◌/◌, ◌%◌, ◌^◌, ◌≤◌, ◌<◌, eqb, get_or, set}
+use Rattle.std.specs.Prelude.{◌≡◌, Bool, true, false, not, List, ℕ, zero, suc, ◌+◌, ◌/◌, ◌%◌, ◌^◌, ◌≤◌, ◌<◌, eqb, get_or, set, Result, Ok, Err, IfOk}
 use Rattle.cells.specs.Chains.{count}
-use Rattle.cells.specs.declared.Stop.{Stop}
+use Rattle.cells.specs.declared.Fault.{Fault}
+use Rattle.cells.specs.Faults.{Stop, Finding, sound, broken_or}
 use Rattle.chains.specs.declared.MarkedWalk.{MarkedWalk}
 
 -- mark c, 0 or 1
@@ -40,8 +41,13 @@ pub record FirstMisfit (fits : ℕ → Bool) (reached : List ℕ) (n lowest : �
   pub least : (c : ℕ) → c < lowest → 0 < count c reached → fits c ≡ true
   pub found : lowest < n → (0 < count lowest reached) × (fits lowest ≡ false)
 
--- what a walk leaves
-pub record Walked (fits : ℕ → Bool) (n : ℕ) (r : MarkedWalk) (m : List ℕ) (w : Stop × List ℕ) : Type 0 where
-  pub stop : r.stop ≡ w.0
+-- what is found by a walk: nothing where it came to the end of its chain
+abbrev pub found_by : Result MarkedWalk Fault → Finding
+found_by (Ok seen) = sound
+found_by (Err fault) = Err fault
+
+-- what a walk leaves; the lowest misfit where it came to the end of its chain
+pub record Walked (fits : ℕ → Bool) (n : ℕ) (r : Result MarkedWalk Fault) (m : List ℕ) (w : Stop × List ℕ) : Type 0 where
+  pub stop : found_by r ≡ broken_or w.0 sound
   pub marks : Marks m w.1
-  pub lowest : FirstMisfit fits w.1 n r.lowest
+  pub lowest : IfOk r (λ seen. FirstMisfit fits w.1 n seen.lowest)

@@ -5,28 +5,26 @@ use Prim.Native.Nat.{ℕ, ◌+◌, ◌-◌, ◌≤◌, ◌<◌}
 use native.Mathlib.Omega.{arith}
 use lib.Dec.{eqb, ltb}
 use borrow.Author.Tests.{not-false, eqb-true, ltb-false, le-ltb}
-use Rattle.answers.specs.Answers.{line_at, line, room}
-use Rattle.answers.specs.declared.Check.{Check}
-use Rattle.answers.specs.declared.Check.TheVariants.{Clear}
+use Rattle.answers.specs.Answers.{line_at, line, room, Check, clear}
 use Rattle.answers.specs.declared.Ground.TheVariants.{ModeNumber, Rounds, KeyLength, NonceLength, HeaderLength, InputLength, OutputLength, TagMissing}
 use Rattle.answers.proofs.Values.{place_of, line_at-lt, after, line_after, line_clear, after-clear, passed_on, room-clear}
 use Rattle.checks.specs.Checks.{is_mode, is_rounds, settings, seal_inputs, open_inputs, seal_checks, open_checks, convert_checks}
 
 -- the place of a buffer that is too short is 0
-pub room-place : (needed lent n : ℕ) → 0 < n → place_of (room needed lent Clear) < n
+pub room-place : (needed lent n : ℕ) → 0 < n → place_of (room needed lent clear) < n
 unfolding room line
-room-place needed lent n z = line_at-lt n (ltb lent needed) OutputLength 0 Clear (λ t. z) (λ t. z)
+room-place needed lent n z = line_at-lt n (ltb lent needed) OutputLength 0 clear (λ t. z) (λ t. z)
 
 module _ (mode rounds key nonce header : ℕ) where
   -- the checks behind decide where those of the settings are clear
-  pub settings-after : (next : Check) → settings mode rounds key nonce header next ≡ after (settings mode rounds key nonce header Clear) next
+  pub settings-after : (next : Check) → settings mode rounds key nonce header next ≡ after (settings mode rounds key nonce header clear) next
   unfolding settings after
   settings-after next = simp (← line_after)
 
-  settings-clear : (next : Check) → settings mode rounds key nonce header next ≡ Clear → (settings mode rounds key nonce header Clear ≡ Clear) × (next ≡ Clear)
-  settings-clear next e = after-clear (settings mode rounds key nonce header Clear) next (sym (settings-after next) ∙ e)
+  settings-clear : (next : Check) → settings mode rounds key nonce header next ≡ clear → (settings mode rounds key nonce header clear ≡ clear) × (next ≡ clear)
+  settings-clear next e = after-clear (settings mode rounds key nonce header clear) next (sym (settings-after next) ∙ e)
 
-  settings-lengths : settings mode rounds key nonce header Clear ≡ Clear → (key ≡ 32) × (nonce ≡ 16)
+  settings-lengths : settings mode rounds key nonce header clear ≡ clear → (key ≡ 32) × (nonce ≡ 16)
   unfolding settings
   settings-lengths e =
       let a = line_clear (not (is_mode mode)) ModeNumber _ e in
@@ -38,47 +36,47 @@ module _ (mode rounds key nonce header : ℕ) where
   -- ---- seal
 
   module _ (message : ℕ) where
-    pub seal-after : (next : Check) → seal_inputs mode rounds key nonce header message next ≡ after (seal_inputs mode rounds key nonce header message Clear) next
+    pub seal-after : (next : Check) → seal_inputs mode rounds key nonce header message next ≡ after (seal_inputs mode rounds key nonce header message clear) next
     unfolding seal_inputs settings after
     seal-after next = simp (← line_after)
 
-    pub seal-inputs : seal_inputs mode rounds key nonce header message Clear ≡ Clear
-        → (settings mode rounds key nonce header Clear ≡ Clear) × (message ≤ 65536)
+    pub seal-inputs : seal_inputs mode rounds key nonce header message clear ≡ clear
+        → (settings mode rounds key nonce header clear ≡ clear) × (message ≤ 65536)
     unfolding seal_inputs
     seal-inputs e =
         let s = settings-clear _ e in
-        (s.0, ltb-false 65536 message (line_clear (ltb 65536 message) InputLength Clear s.1).0)
+        (s.0, ltb-false 65536 message (line_clear (ltb 65536 message) InputLength clear s.1).0)
 
     -- what the work of seal may count on
-    pub seal-clear : (out : ℕ) → seal_checks mode rounds key nonce header message out ≡ Clear
+    pub seal-clear : (out : ℕ) → seal_checks mode rounds key nonce header message out ≡ clear
         → ((key ≡ 32) × (nonce ≡ 16)) × ((message ≤ 65536) × (message + 32 ≤ out))
     unfolding seal_checks
     seal-clear out e =
-        let a = after-clear _ _ (sym (seal-after (room (message + 32) out Clear)) ∙ e) in
+        let a = after-clear _ _ (sym (seal-after (room (message + 32) out clear)) ∙ e) in
         let i = seal-inputs a.0 in
-        (settings-lengths i.0, (i.1, (room-clear (message + 32) out Clear a.1).0))
+        (settings-lengths i.0, (i.1, (room-clear (message + 32) out clear a.1).0))
 
   -- ---- open
 
   module _ (parcel : ℕ) where
-    pub open_after : (next : Check) → open_inputs mode rounds key nonce header parcel next ≡ after (open_inputs mode rounds key nonce header parcel Clear) next
+    pub open_after : (next : Check) → open_inputs mode rounds key nonce header parcel next ≡ after (open_inputs mode rounds key nonce header parcel clear) next
     unfolding open_inputs settings after
     open_after next = simp (← line_after)
 
-    pub open-inputs : open_inputs mode rounds key nonce header parcel Clear ≡ Clear
-        → (settings mode rounds key nonce header Clear ≡ Clear) × ((32 ≤ parcel) × (parcel ≤ 65568))
+    pub open-inputs : open_inputs mode rounds key nonce header parcel clear ≡ clear
+        → (settings mode rounds key nonce header clear ≡ clear) × ((32 ≤ parcel) × (parcel ≤ 65568))
     unfolding open_inputs
     open-inputs e =
         let s = settings-clear _ e in
         let t = line_clear (ltb parcel 32) TagMissing _ s.1 in
-        (s.0, (ltb-false parcel 32 t.0, ltb-false 65568 parcel (line_clear (ltb 65568 parcel) InputLength Clear t.1).0))
+        (s.0, (ltb-false parcel 32 t.0, ltb-false 65568 parcel (line_clear (ltb 65568 parcel) InputLength clear t.1).0))
 
     -- what the judgement of a parcel may count on
-    pub parcel-clear : open_inputs mode rounds key nonce header parcel Clear ≡ Clear → ((key ≡ 32) × (nonce ≡ 16)) × (32 ≤ parcel)
+    pub parcel-clear : open_inputs mode rounds key nonce header parcel clear ≡ clear → ((key ≡ 32) × (nonce ≡ 16)) × (32 ≤ parcel)
     parcel-clear e = let i = open-inputs e in (settings-lengths i.0, i.1.0)
 
     -- the mode and the round count are allowed ones
-    pub inputs-settings : open_inputs mode rounds key nonce header parcel Clear ≡ Clear → (is_mode mode ≡ true) × (is_rounds rounds ≡ true)
+    pub inputs-settings : open_inputs mode rounds key nonce header parcel clear ≡ clear → (is_mode mode ≡ true) × (is_rounds rounds ≡ true)
     unfolding open_inputs settings
     inputs-settings e =
         let a = line_clear (not (is_mode mode)) ModeNumber _ e in
@@ -86,8 +84,8 @@ module _ (mode rounds key nonce header : ℕ) where
         (not-false (is_mode mode) a.0, not-false (is_rounds rounds) b.0)
 
     -- another mode and another allowed count pass as well
-    pub other-inputs : (m n : ℕ) → is_mode m ≡ true → is_rounds n ≡ true → open_inputs mode rounds key nonce header parcel Clear ≡ Clear
-        → open_inputs m n key nonce header parcel Clear ≡ Clear
+    pub other-inputs : (m n : ℕ) → is_mode m ≡ true → is_rounds n ≡ true → open_inputs mode rounds key nonce header parcel clear ≡ clear
+        → open_inputs m n key nonce header parcel clear ≡ clear
     unfolding open_inputs settings line line_at
     other-inputs m n hm hn e =
         let a = line_clear (not (is_mode mode)) ModeNumber _ e in
@@ -95,22 +93,22 @@ module _ (mode rounds key nonce header : ℕ) where
         rw (hm, hn) b.1
 
     -- what the work of open may count on
-    pub open-clear : (out : ℕ) → open_checks mode rounds key nonce header parcel out ≡ Clear
+    pub open-clear : (out : ℕ) → open_checks mode rounds key nonce header parcel out ≡ clear
         → ((key ≡ 32) × (nonce ≡ 16)) × (((32 ≤ parcel) × (parcel ≤ 65568)) × (parcel - 32 ≤ out))
     unfolding open_checks
     open-clear out e =
-        let a = after-clear _ _ (sym (open_after (room (parcel - 32) out Clear)) ∙ e) in
+        let a = after-clear _ _ (sym (open_after (room (parcel - 32) out clear)) ∙ e) in
         let i = open-inputs a.0 in
-        (settings-lengths i.0, (i.1, (room-clear (parcel - 32) out Clear a.1).0))
+        (settings-lengths i.0, (i.1, (room-clear (parcel - 32) out clear a.1).0))
 
     -- what the work of convert may count on
-    pub convert-clear : (out : ℕ) → convert_checks mode rounds key nonce header parcel out ≡ Clear
+    pub convert-clear : (out : ℕ) → convert_checks mode rounds key nonce header parcel out ≡ clear
         → ((key ≡ 32) × (nonce ≡ 16)) × (((32 ≤ parcel) × (parcel ≤ 65568)) × (parcel ≤ out))
     unfolding convert_checks
     convert-clear out e =
-        let a = after-clear _ _ (sym (open_after (room parcel out Clear)) ∙ e) in
+        let a = after-clear _ _ (sym (open_after (room parcel out clear)) ∙ e) in
         let i = open-inputs a.0 in
-        (settings-lengths i.0, (i.1, (room-clear parcel out Clear a.1).0))
+        (settings-lengths i.0, (i.1, (room-clear parcel out clear a.1).0))
 
   -- ---- their places are 0
 
@@ -142,15 +140,15 @@ module _ (mode rounds key nonce header : ℕ) where
 
   -- ---- a message and a parcel 32 bytes longer pass the same checks
 
-  pub parcel-inputs : (message : ℕ) → seal_inputs mode rounds key nonce header message Clear ≡ Clear
-      → open_inputs mode rounds key nonce header (message + 32) Clear ≡ Clear
+  pub parcel-inputs : (message : ℕ) → seal_inputs mode rounds key nonce header message clear ≡ clear
+      → open_inputs mode rounds key nonce header (message + 32) clear ≡ clear
   unfolding open_inputs line line_at
   parcel-inputs message e =
       let i = seal-inputs message e in
       passed_on _ _ (settings-after _) i.0 ∙ rw (le-ltb (message + 32) 32 (omega arith), le-ltb 65568 (message + 32) (omega (arith, i.1)))
 
-  pub message-inputs : (parcel : ℕ) → open_inputs mode rounds key nonce header parcel Clear ≡ Clear
-      → seal_inputs mode rounds key nonce header (parcel - 32) Clear ≡ Clear
+  pub message-inputs : (parcel : ℕ) → open_inputs mode rounds key nonce header parcel clear ≡ clear
+      → seal_inputs mode rounds key nonce header (parcel - 32) clear ≡ clear
   unfolding seal_inputs line line_at
   message-inputs parcel e =
       let i = open-inputs parcel e in

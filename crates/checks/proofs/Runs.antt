@@ -5,9 +5,8 @@ use Prim.Native.Nat.{ℕ, ◌+◌, ◌-◌, ◌/◌, ◌≤◌, ◌<◌}
 use native.Mathlib.Omega.{arith}
 use lib.Dec.{ltb}
 use borrow.Author.Tests.{ltb-true, ltb-false, le-ltb}
-use Rattle.answers.specs.Answers.{room, line, line_at}
-use Rattle.answers.specs.declared.Check.{Check}
-use Rattle.answers.specs.declared.Check.TheVariants.{Clear, Fails}
+use Rattle.std.specs.Prelude.{Ok, Err}
+use Rattle.answers.specs.Answers.{room, line, line_at, Check, clear}
 use Rattle.answers.proofs.Values.{place_of, after, line_after, after-clear, room-clear}
 use Rattle.checks.specs.Checks.{settings, seal_inputs, open_inputs, seal_checks, open_checks, larger, run_length, seal_run_checks, open_run_checks}
 use Rattle.checks.proofs.Clears.{room-place, seal-place, open-place}
@@ -18,10 +17,6 @@ larger-both a b true e = (omega (arith, ltb-true a b e), omega arith)
 larger-both a b false e = (omega arith, omega (arith, ltb-false a b e))
 
 -- the larger of two is one of them
-larger-most : (n a b : ℕ) (t : Bool) → a ≤ n → b ≤ n → cond t b a ≤ n
-larger-most n a b true ha hb = hb
-larger-most n a b false ha hb = ha
-
 -- which blocks the run's words suffice for
 pub run_long : (header message : ℕ) → (header / 128 + 21 ≤ run_length header message) × (message / 128 + 21 ≤ run_length header message)
 unfolding run_length larger
@@ -30,38 +25,38 @@ run_long header message =
     (omega (arith, most.0), omega (arith, most.1))
 
 -- a buffer that is long enough passes
-enough : (needed lent : ℕ) → needed ≤ lent → room needed lent Clear ≡ Clear
+enough : (needed lent : ℕ) → needed ≤ lent → room needed lent clear ≡ clear
 unfolding room line line_at
 enough needed lent h = rw (le-ltb lent needed h)
 
 after-place : (c next : Check) (n : ℕ) → place_of c < n → place_of next < n → place_of (after c next) < n
 unfolding after
-after-place Clear next n h k = k
-after-place (Fails g at) next n h k = h
+after-place (Ok none) next n h k = k
+after-place (Err found) next n h k = h
 
 module _ (mode rounds key nonce header : ℕ) where
   pub seal-run-after : (message out words : ℕ) → seal_run_checks mode rounds key nonce header message out words
-      ≡ after (seal_checks mode rounds key nonce header message out) (room (run_length header message) words Clear)
+      ≡ after (seal_checks mode rounds key nonce header message out) (room (run_length header message) words clear)
   unfolding seal_run_checks seal_checks seal_inputs settings room after
   seal-run-after message out words = simp (← line_after)
 
   pub open-run-after : (parcel out words : ℕ) → open_run_checks mode rounds key nonce header parcel out words
-      ≡ after (open_checks mode rounds key nonce header parcel out) (room (run_length header (parcel - 32)) words Clear)
+      ≡ after (open_checks mode rounds key nonce header parcel out) (room (run_length header (parcel - 32)) words clear)
   unfolding open_run_checks open_checks open_inputs settings room after
   open-run-after parcel out words = simp (← line_after)
 
   -- what the work may count on
-  pub seal-run-clear : (message out words : ℕ) → seal_run_checks mode rounds key nonce header message out words ≡ Clear
-      → (seal_checks mode rounds key nonce header message out ≡ Clear) × (run_length header message ≤ words)
+  pub seal-run-clear : (message out words : ℕ) → seal_run_checks mode rounds key nonce header message out words ≡ clear
+      → (seal_checks mode rounds key nonce header message out ≡ clear) × (run_length header message ≤ words)
   seal-run-clear message out words e =
       let a = after-clear _ _ (sym (seal-run-after message out words) ∙ e) in
-      (a.0, (room-clear (run_length header message) words Clear a.1).0)
+      (a.0, (room-clear (run_length header message) words clear a.1).0)
 
-  pub open-run-clear : (parcel out words : ℕ) → open_run_checks mode rounds key nonce header parcel out words ≡ Clear
-      → (open_checks mode rounds key nonce header parcel out ≡ Clear) × (run_length header (parcel - 32) ≤ words)
+  pub open-run-clear : (parcel out words : ℕ) → open_run_checks mode rounds key nonce header parcel out words ≡ clear
+      → (open_checks mode rounds key nonce header parcel out ≡ clear) × (run_length header (parcel - 32) ≤ words)
   open-run-clear parcel out words e =
       let a = after-clear _ _ (sym (open-run-after parcel out words) ∙ e) in
-      (a.0, (room-clear (run_length header (parcel - 32)) words Clear a.1).0)
+      (a.0, (room-clear (run_length header (parcel - 32)) words clear a.1).0)
 
   -- ---- with words enough
 

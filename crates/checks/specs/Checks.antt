@@ -1,8 +1,6 @@
 -- The checks of seal, open, convert and diagnose, and of sealing and opening from a run, over settings and lengths alone (document 01, "Entry points and where each call is checked"; document 02, card 6, for a run, and card 9 for diagnose). Assumes nothing.
 use Rattle.std.specs.Prelude.{Bool, false, not, cond, ◌||◌, List, [], ◌∷◌, ℕ, ◌+◌, ◌-◌, ◌/◌, eqb, ltb}
-use Rattle.answers.specs.Answers.{line, room}
-use Rattle.answers.specs.declared.Check.{Check}
-use Rattle.answers.specs.declared.Check.TheVariants.{Clear}
+use Rattle.answers.specs.Answers.{line, room, Check, clear}
 use Rattle.answers.specs.declared.Ground.TheVariants.{ModeNumber, Rounds, KeyLength, NonceLength, HeaderLength, InputLength, TagMissing}
 
 -- mode 1 or 2
@@ -20,7 +18,7 @@ round_counts = 4 ∷ 6 ∷ 8 ∷ 12 ∷ []
 
 -- rounds 4, 6, 8 or 12 (document 02, card 2)
 unfoldable pub is_rounds : ℕ → Bool
-is_rounds rounds = is_one_of (4 ∷ 6 ∷ 8 ∷ 12 ∷ []) rounds
+is_rounds rounds = is_one_of round_counts rounds
 
 -- seal, open, convert, diagnose, first to fifth: mode, rounds, and the lengths of key, nonce and header; then the checks behind them
 unfoldable pub settings : ℕ → ℕ → ℕ → ℕ → ℕ → Check → Check
@@ -42,15 +40,15 @@ open_inputs mode rounds key nonce header parcel next =
 
 -- seal, all: the last is room for the parcel
 unfoldable pub seal_checks : ℕ → ℕ → ℕ → ℕ → ℕ → ℕ → ℕ → Check
-seal_checks mode rounds key nonce header message out = seal_inputs mode rounds key nonce header message (room (message + 32) out Clear)
+seal_checks mode rounds key nonce header message out = seal_inputs mode rounds key nonce header message (room (message + 32) out clear)
 
 -- open, all but the tag's, which comes last: the last of these is room for the message
 unfoldable pub open_checks : ℕ → ℕ → ℕ → ℕ → ℕ → ℕ → ℕ → Check
-open_checks mode rounds key nonce header parcel out = open_inputs mode rounds key nonce header parcel (room (parcel - 32) out Clear)
+open_checks mode rounds key nonce header parcel out = open_inputs mode rounds key nonce header parcel (room (parcel - 32) out clear)
 
 -- convert, all but the judgement of the parcel, which comes last: checked as open, and the last of these is room for a parcel of the same length (document 02, card 5)
 unfoldable pub convert_checks : ℕ → ℕ → ℕ → ℕ → ℕ → ℕ → ℕ → Check
-convert_checks mode rounds key nonce header parcel out = open_inputs mode rounds key nonce header parcel (room parcel out Clear)
+convert_checks mode rounds key nonce header parcel out = open_inputs mode rounds key nonce header parcel (room parcel out clear)
 
 -- the larger of two counts
 unfoldable pub larger : ℕ → ℕ → ℕ
@@ -63,9 +61,9 @@ run_length header message = larger (header / 128) (message / 128) + 21
 -- seal from a run, all: as seal's, and with the output's length that of the buffer of words (document 02, card 6)
 unfoldable pub seal_run_checks : ℕ → ℕ → ℕ → ℕ → ℕ → ℕ → ℕ → ℕ → Check
 seal_run_checks mode rounds key nonce header message out words =
-    seal_inputs mode rounds key nonce header message (room (message + 32) out (room (run_length header message) words Clear))
+    seal_inputs mode rounds key nonce header message (room (message + 32) out (room (run_length header message) words clear))
 
 -- open from a run, all but the tag's: as open's, and with the output's length that of the buffer of words
 unfoldable pub open_run_checks : ℕ → ℕ → ℕ → ℕ → ℕ → ℕ → ℕ → ℕ → Check
 open_run_checks mode rounds key nonce header parcel out words =
-    open_inputs mode rounds key nonce header parcel (room (parcel - 32) out (room (run_length header (parcel - 32)) words Clear))
+    open_inputs mode rounds key nonce header parcel (room (parcel - 32) out (room (run_length header (parcel - 32)) words clear))

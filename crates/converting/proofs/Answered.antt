@@ -1,42 +1,34 @@
 -- What convert answers where the parcel opens under the old start, under the new one alone, and under neither, and that it is small. Assumes nothing.
-use mathlib.Core.Path.{◌≡◌, sym, ap, ◌∙◌}
-use mathlib.Core.Bool.{Bool, true, false}
+use mathlib.Core.Path.{◌≡◌, ap}
+use mathlib.Core.Bool.{true, false}
 use mathlib.Core.List.{List, ◌++◌}
 use Prim.Native.Nat.{ℕ, ◌^◌, ◌<◌}
 use native.Mathlib.Omega.{arith}
 use lib.Dec.{lit<}
 use lib.ListN.{length, drop}
 use Rattle.words.proofs.Truth.{pick}
-use Rattle.answers.specs.Answers.{value_of}
-use Rattle.answers.specs.declared.Answer.{Answer}
-use Rattle.answers.specs.declared.Answer.TheVariants.{Done, Refused}
+use Rattle.std.specs.Prelude.{Ok, Err}
+use Rattle.answers.specs.Answers.{Answer, value_of}
+use Rattle.answers.specs.Refusals.{refusal}
 use Rattle.answers.specs.declared.Ground.TheVariants.{TagDiffers, DoneAlready}
 use Rattle.answers.proofs.Values.{checked-lt}
 use Rattle.blockplan.specs.Parcel.{Mode, parcel_of, message_of, genuine}
 use Rattle.checks.proofs.Clears.{convert-clear, convert-place}
-use Rattle.modes.specs.Modes.{mode_of}
 use Rattle.converting.specs.Converting.{converted, convert_call}
-
--- ---- the judgement under a start
-
--- what was judged over a start's block holds over the start
-pub genuine-under : (mode rounds : ℕ) (header parcel : List ℕ) {block start : List ℕ} {right verdict : Bool} → block ≡ start
-    → right ≡ genuine (mode_of mode rounds block) header parcel → right ≡ verdict → genuine (mode_of mode rounds start) header parcel ≡ verdict
-genuine-under mode rounds header parcel b e q = ap (λ (s : List ℕ). genuine (mode_of mode rounds s) header parcel) (sym b) ∙ sym e ∙ q
 
 -- ---- the three ways
 
 module _ (old new : Mode) (header parcel out : List ℕ) where
   pub converted-where : (written : List ℕ) → genuine old header parcel ≡ true → written ≡ parcel_of new header (message_of old parcel) ++ drop (length parcel) out
-      → (Done (length parcel), written) ≡ converted old new header parcel out
+      → (Ok (length parcel), written) ≡ converted old new header parcel out
   unfolding converted
-  converted-where written e w = rw e (ap (λ (l : List ℕ). (Done (length parcel), l)) w)
+  converted-where written e w = rw e (ap (λ (l : List ℕ). (Ok (length parcel), l)) w)
 
-  pub done-where : genuine old header parcel ≡ false → genuine new header parcel ≡ true → (Refused DoneAlready 0, out) ≡ converted old new header parcel out
+  pub done-where : genuine old header parcel ≡ false → genuine new header parcel ≡ true → (Err (refusal DoneAlready 0), out) ≡ converted old new header parcel out
   unfolding converted
   done-where e q = rw (e, q)
 
-  pub neither-where : genuine old header parcel ≡ false → genuine new header parcel ≡ false → (Refused TagDiffers 0, out) ≡ converted old new header parcel out
+  pub neither-where : genuine old header parcel ≡ false → genuine new header parcel ≡ false → (Err (refusal TagDiffers 0), out) ≡ converted old new header parcel out
   unfolding converted
   neither-where e q = rw (e, q)
 
@@ -44,7 +36,7 @@ module _ (old new : Mode) (header parcel out : List ℕ) where
   unfolding converted
   converted-lt n h z =
       pick (λ (r : Answer × List ℕ). value_of r.0 < n) (genuine old header parcel) _ _ h
-      (pick (λ (r : Answer × List ℕ). value_of r.0 < n) (genuine new header parcel) (Refused DoneAlready 0, out) (Refused TagDiffers 0, out) z z)
+      (pick (λ (r : Answer × List ℕ). value_of r.0 < n) (genuine new header parcel) (Err (refusal DoneAlready 0), out) (Err (refusal TagDiffers 0), out) z z)
 
 -- ---- the answer is small
 

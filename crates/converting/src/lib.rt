@@ -6,41 +6,24 @@
 ghost use Rattle.std.specs.Prelude.{◌≡◌};
 ghost use Rattle.converting.specs.Converting.{convert_call};
 
-use answers::{Answer, Check, Ground};
-use checks::{Lengths, check_convert};
+use answers::{Answer, Ground, Refusal};
+use checks::Terms;
 use mem::start::start;
 
 // The parcel under the new start of a message that was sealed under the old one.
-pub fn convert(
-    mode: u32,
-    rounds: u32,
-    key: &[u8],
-    nonce: &[u8],
-    header: &[u8],
-    parcel: &[u8],
-    out: &mut [u8],
-) -> Answer
-    ensures { (result, out.new) ≡ convert_call mode rounds key.now nonce.now header.now parcel.now out.old }
+pub fn convert(of: &Terms<'_>, parcel: &[u8], out: &mut [u8]) -> Answer
+    ensures { (result, out.new) ≡ convert_call of.now.mode of.now.rounds of.now.key.now of.now.nonce.now of.now.header.now parcel.now out.old }
 {
     let n = parcel.len();
-    let lengths = Lengths {
-        key: key.len(),
-        nonce: nonce.len(),
-        header: header.len(),
-        input: n,
-    };
-    let found = check_convert(mode, rounds, lengths, out.len());
-    if let Check::Fails(ground, place) = found {
-        return Answer::Refused(ground, place);
+    of.request(n).check_convert(out.len())?;
+    let old = start(true, of.key, of.nonce, of.rounds);
+    let new = start(false, of.key, of.nonce, of.rounds);
+    if modes::judge(old, of.mode, of.rounds, of.header, parcel) {
+        modes::reseal(old, new, of.mode, of.rounds, of.header, parcel, out);
+        return Ok(n as u64);
     }
-    let old = start(true, key, nonce, rounds);
-    let new = start(false, key, nonce, rounds);
-    if modes::judge(old, mode, rounds, header, parcel) {
-        modes::reseal(old, new, mode, rounds, header, parcel, out);
-        return Answer::Done(n as u64);
+    if modes::judge(new, of.mode, of.rounds, of.header, parcel) {
+        return Err(Refusal::from(Ground::DoneAlready));
     }
-    if modes::judge(new, mode, rounds, header, parcel) {
-        return Answer::Refused(Ground::DoneAlready, 0);
-    }
-    Answer::Refused(Ground::TagDiffers, 0)
+    Err(Refusal::from(Ground::TagDiffers))
 }

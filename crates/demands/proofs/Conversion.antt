@@ -8,13 +8,12 @@ use native.Mathlib.Omega.{arith}
 use lib.ListN.{length, take, drop}
 use lib.Seq.{take_at}
 use Rattle.words.specs.Sequence.{zeros}
-use Rattle.answers.specs.Answers.{value_of, room, checked}
+use Rattle.std.specs.Prelude.{Err}
+use Rattle.answers.specs.Refusals.{refusal}
+use Rattle.answers.specs.Answers.{value_of, room, checked, clear, Answer}
 use Rattle.answers.proofs.Values.{is_done, passed_on, checked-unchanged}
 use Rattle.answers.specs.declared.Ground.{Ground}
 use Rattle.answers.specs.declared.Ground.TheVariants.{TagDiffers, DoneAlready}
-use Rattle.answers.specs.declared.Check.TheVariants.{Clear}
-use Rattle.answers.specs.declared.Answer.{Answer}
-use Rattle.answers.specs.declared.Answer.TheVariants.{Refused}
 use Rattle.mem.specs.Mem.{start_of, old_start_of}
 use Rattle.mem.proofs.Laws.{start-block, old-start-block}
 use Rattle.blockplan.specs.Parcel.{Mode, parcel_of, message_of, genuine}
@@ -90,9 +89,9 @@ module _ (mode rounds : ℕ) (key nonce header : List ℕ) where
 
   module _ (parcel : List ℕ) (𝓟 : Openable mode rounds key nonce header parcel) where
     -- where open refuses on no ground but 9, the room decides first
-    answers : (out : List ℕ) → convert_call mode rounds key nonce header parcel out ≡ checked (room (length parcel) (length out) Clear) out (converted old new header parcel out)
+    answers : (out : List ℕ) → convert_call mode rounds key nonce header parcel out ≡ checked (room (length parcel) (length out) clear) out (converted old new header parcel out)
     unfolding mode_under convert_call convert_checks
-    answers out = rw (passed_on _ _ (open_after _ _ _ _ _ _ (room (length parcel) (length out) Clear)) 𝓟.clear)
+    answers out = rw (passed_on _ _ (open_after _ _ _ _ _ _ (room (length parcel) (length out) clear)) 𝓟.clear)
 
     convert-is : (out : List ℕ) → length parcel ≤ length out → convert_call mode rounds key nonce header parcel out ≡ converted old new header parcel out
     unfolding checked
@@ -107,8 +106,8 @@ module _ (mode rounds : ℕ) (key nonce header : List ℕ) where
         let far : length held ≡ length parcel - 32 = long old_start_of old-start-block mode rounds key nonce header parcel 𝓟 in
         let wide : 32 ≤ length parcel = (inputs old_start_of old-start-block mode rounds key nonce header parcel 𝓟).0 in
         let same : length held + 32 ≡ length parcel = omega (arith, far, wide) in
-        answers out ∙ rw (passed_on _ _ (seal-after _ _ _ _ _ _ (room (length held + 32) (length out) Clear)) sealable.clear, same)
-        (ap (checked (room (length parcel) (length out) Clear) out) (sym (converted-where old new header parcel out _ e refl)))
+        answers out ∙ rw (passed_on _ _ (seal-after _ _ _ _ _ _ (room (length held + 32) (length out) clear)) sealable.clear, same)
+        (ap (checked (room (length parcel) (length out) clear) out) (sym (converted-where old new header parcel out _ e refl)))
 
     converts : (message : List ℕ) → Opens open_old_call mode rounds key nonce header parcel message → SealsAgain mode rounds key nonce header parcel message
     unfolding open_old_call
@@ -176,7 +175,7 @@ module _ (mode rounds : ℕ) (key nonce header : List ℕ) where
 
 -- convert's work and its checks, where each leaves the output as it was
 ways-unchanged : (old new : Mode) (header parcel out : List ℕ) (g : Ground) (at : ℕ) (s t : Bool) → genuine old header parcel ≡ s → genuine new header parcel ≡ t
-    → (converted old new header parcel out).0 ≡ Refused g at → (converted old new header parcel out).1 ≡ out
+    → (converted old new header parcel out).0 ≡ Err (refusal g at) → (converted old new header parcel out).1 ≡ out
 ways-unchanged old new header parcel out g at true t e q r =
     absurd (true≢false (ap is_done (ap (λ (x : Answer × List ℕ). x.0) (converted-where old new header parcel out _ e refl) ∙ r)))
 ways-unchanged old new header parcel out g at false true e q r = sym (ap (λ (x : Answer × List ℕ). x.1) (done-where old new header parcel out e q))
@@ -188,5 +187,5 @@ conversion = record {
   converts-sealed = λ mode rounds key nonce header message parcel 𝓜 s.
       (seals-again mode rounds key nonce header message parcel 𝓜 s, opens-converted mode rounds key nonce header message parcel 𝓜 s);
   one_of_three = λ mode rounds key nonce header parcel 𝓟. one_of_three mode rounds key nonce header parcel 𝓟;
-  unchanged = λ mode rounds key nonce header parcel out g at e. checked-unchanged _ out _ g at (ways-unchanged _ _ header parcel out g at _ _ refl refl) e;
+  unchanged = λ mode rounds key nonce header parcel out g at e. checked-unchanged _ out _ (refusal g at) (ways-unchanged _ _ header parcel out g at _ _ refl refl) e;
 }

@@ -10,10 +10,8 @@ use borrow.Author.Tests.{le-ltb}
 use Rattle.words.specs.Sequence.{zeros}
 use Rattle.words.specs.Block.{Block, Bytes}
 use Rattle.words.proofs.Lists.{length-tab}
-use Rattle.answers.specs.Answers.{line_at, line, room, checked}
+use Rattle.answers.specs.Answers.{line_at, line, room, checked, clear, Answer}
 use Rattle.answers.proofs.Values.{passed_on}
-use Rattle.answers.specs.declared.Check.TheVariants.{Clear}
-use Rattle.answers.specs.declared.Answer.{Answer}
 use Rattle.mem.specs.Mem.{start_of, old_start_of}
 use Rattle.mem.proofs.Laws.{start-block, old-start-block}
 use Rattle.blockplan.specs.Parcel.{Mode, parcel_of, message_of, genuine, opened}
@@ -31,7 +29,7 @@ unfolding zeros
 length-zeros n = length-tab (λ i. 0) n
 
 -- room where there is room
-pub roomy : (needed lent : ℕ) → needed ≤ lent → room needed lent Clear ≡ Clear
+pub roomy : (needed lent : ℕ) → needed ≤ lent → room needed lent clear ≡ clear
 unfolding room line line_at
 roomy needed lent h = rw (le-ltb lent needed h)
 
@@ -50,7 +48,7 @@ module _ (start : ℕ → List ℕ → List ℕ → List ℕ) (is_block : Blocks
 
   pub seals : (message : List ℕ) → Sealable mode rounds key nonce header message → Seals (seal_from start) mode rounds key nonce header message (parcel_of mode_under header message)
   unfolding mode_under seal_from seal_checks checked
-  seals message 𝓜 out h = rw (passed_on _ _ (seal-after _ _ _ _ _ _ (room (length message + 32) (length out) Clear)) 𝓜.clear, roomy (length message + 32) (length out) h)
+  seals message 𝓜 out h = rw (passed_on _ _ (seal-after _ _ _ _ _ _ (room (length message + 32) (length out) clear)) 𝓜.clear, roomy (length message + 32) (length out) h)
 
   module _ (parcel : List ℕ) (𝓟 : Openable mode rounds key nonce header parcel) where
     pub inputs : (32 ≤ length parcel) × (length parcel ≤ 65568)
@@ -65,7 +63,7 @@ module _ (start : ℕ → List ℕ → List ℕ → List ℕ) (is_block : Blocks
     answers : (out : List ℕ) → length parcel - 32 ≤ length out
         → open_from start mode rounds key nonce header parcel out ≡ verdict (length parcel - 32) (opened mode_under header parcel out)
     unfolding mode_under open_from open_checks checked
-    answers out h = rw (passed_on _ _ (open_after _ _ _ _ _ _ (room (length parcel - 32) (length out) Clear)) 𝓟.clear, roomy (length parcel - 32) (length out) h)
+    answers out h = rw (passed_on _ _ (open_after _ _ _ _ _ _ (room (length parcel - 32) (length out) clear)) 𝓟.clear, roomy (length parcel - 32) (length out) h)
 
     pub opens : genuine mode_under header parcel ≡ true → Opens (open_from start) mode rounds key nonce header parcel (message_of mode_under parcel)
     unfolding verdict opened

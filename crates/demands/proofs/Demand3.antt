@@ -11,10 +11,8 @@ use borrow.Author.Tests.{eq-eqb, le-leb, le-ltb}
 use Rattle.words.specs.Sequence.{zeros, tab, times}
 use Rattle.words.specs.Block.{Block, block_of, bytes_of, xor_bytes}
 use Rattle.words.proofs.Blocks.{length-bytes_of, bytes-bytes_of, block-block_of, block_of-bytes, bytes-are, bytes_of-xor, block_of-xor, length-xor_bytes, bytes-xor_bytes}
-use Rattle.answers.specs.Answers.{line_at, line, room, checked}
-use Rattle.answers.specs.declared.Check.TheVariants.{Clear}
-use Rattle.answers.specs.declared.Answer.{Answer}
-use Rattle.answers.specs.declared.Answer.TheVariants.{Done}
+use Rattle.std.specs.Prelude.{Ok}
+use Rattle.answers.specs.Answers.{line_at, line, room, checked, clear, Answer}
 use Rattle.words.specs.Undo.{Undo}
 use Rattle.back_steps.proofs.BackAlpha.{alpha-undo}
 use Rattle.back_steps.proofs.Undoing.{beta-undo, gamma-undo}
@@ -59,14 +57,14 @@ net-in-range kind l h =
 -- ---- what walk and jump answer for a start and a list of steps
 
 module _ (start steps out : List ℕ) (a : Start start) (l : Steps steps) where
-  walk-answers : walk_call start steps out ≡ checked (room 128 (length out) Clear) out (Done 128, bytes_of (walked steps (block_of start)) ++ drop 128 out)
+  walk-answers : walk_call start steps out ≡ checked (room 128 (length out) clear) out (Ok 128, bytes_of (walked steps (block_of start)) ++ drop 128 out)
   unfolding walk_call walk_checks line line_at
   walk-answers =
       let none : first_bad steps ≡ length steps = all-steps steps l.low l.high in
       rw (eq-eqb (length start) 128 a.long, le-ltb 4096 (length steps) l.most, none, le-ltb (length steps) (length steps) (omega arith))
 
   jump-answers : jump_call start (net 1 steps) (net 2 steps) (net 3 steps) out
-      ≡ checked (room 128 (length out) Clear) out (Done 128, bytes_of (jumped (net 1 steps) (net 2 steps) (net 3 steps) (block_of start)) ++ drop 128 out)
+      ≡ checked (room 128 (length out) clear) out (Ok 128, bytes_of (jumped (net 1 steps) (net 2 steps) (net 3 steps) (block_of start)) ++ drop 128 out)
   unfolding jump_call jump_checks line line_at
   jump-answers =
       rw (eq-eqb (length start) 128 a.long, net-in-range 1 steps l.most, net-in-range 2 steps l.most, net-in-range 3 steps l.most)
@@ -89,7 +87,7 @@ walk-is-jump : (start steps out : List ℕ) → Start start → Steps steps
     → walk_call start steps out ≡ jump_call start (net 1 steps) (net 2 steps) (net 3 steps) out
 walk-is-jump start steps out a l =
     walk-answers start steps out a l
-    ∙ ap (λ (b : List ℕ). checked (room 128 (length out) Clear) out (Done 128, bytes_of b ++ drop 128 out)) (leads steps (block_of start) (block start a))
+    ∙ ap (λ (b : List ℕ). checked (room 128 (length out) clear) out (Ok 128, bytes_of b ++ drop 128 out)) (leads steps (block_of start) (block start a))
     ∙ sym (jump-answers start steps out a l)
 
 zero-nets : (start l : List ℕ) → Start start → Steps l → net 1 l ≡ pos 0 → net 2 l ≡ pos 0 → net 3 l ≡ pos 0 → mask start l ≡ start
@@ -160,7 +158,7 @@ module _ (kind : ℕ) (s : List ℕ) (p : 1 ≤ kind) (q : kind ≤ 3) (a : Star
       ∙ sym before-is
 
 only-seven : (start steps out : List ℕ) → Start start → Steps steps
-    → walk_call start steps out ≡ checked (room 128 (length out) Clear) out (Done 128, mask start steps ++ drop 128 out)
+    → walk_call start steps out ≡ checked (room 128 (length out) clear) out (Ok 128, mask start steps ++ drop 128 out)
 only-seven start steps out a l = walk-answers start steps out a l ∙ rw (mask_is start steps a l)
 
 pub demand3 : Demand3

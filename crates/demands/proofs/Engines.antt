@@ -9,13 +9,11 @@ use lib.ListN.{length, drop}
 use borrow.Author.Tests.{lt-ltb}
 use Rattle.words.specs.Sequence.{tab}
 use Rattle.words.specs.Block.{Block}
-use Rattle.answers.specs.Answers.{ground_number, line, line_at, room, checked}
+use Rattle.std.specs.Prelude.{Ok, Err}
+use Rattle.answers.specs.Refusals.{refusal}
+use Rattle.answers.specs.Answers.{ground_number, line, line_at, room, checked, Check, clear, Answer}
 use Rattle.answers.specs.declared.Ground.{Ground}
 use Rattle.answers.specs.declared.Ground.TheVariants.{OutputLength, TagDiffers}
-use Rattle.answers.specs.declared.Check.{Check}
-use Rattle.answers.specs.declared.Check.TheVariants.{Clear, Fails}
-use Rattle.answers.specs.declared.Answer.{Answer}
-use Rattle.answers.specs.declared.Answer.TheVariants.{Done, Refused}
 use Rattle.answers.proofs.Values.{is_done, stopped, passed_on}
 use Rattle.masks.specs.Steps.{alpha_w}
 use Rattle.masks.specs.Run.{run, grown}
@@ -49,20 +47,20 @@ words_of r = r.1.1
 module _ (out words : List ℕ) (r : Answer × (List ℕ × List ℕ)) where
   without_words-checked : (c : Check) → without_words (checked c (out, words) r) ≡ checked c out (without_words r)
   unfolding checked
-  without_words-checked Clear = refl
-  without_words-checked (Fails g at) = refl
+  without_words-checked (Ok none) = refl
+  without_words-checked (Err found) = refl
 
   -- what was not refused by the checks
-  clear-done : (c : Check) (n : ℕ) → (checked c (out, words) r).0 ≡ Done n → checked c (out, words) r ≡ r
+  clear-done : (c : Check) (n : ℕ) → (checked c (out, words) r).0 ≡ Ok n → checked c (out, words) r ≡ r
   unfolding checked
-  clear-done Clear n e = refl
-  clear-done (Fails g at) n e = absurd (true≢false (sym (ap is_done e)))
+  clear-done (Ok none) n e = refl
+  clear-done (Err found) n e = absurd (true≢false (sym (ap is_done e)))
 
   -- what a call refuses that refuses nothing after its checks
-  found_first : (c : Check) (g : Ground) (at : ℕ) → (r.0 ≡ Refused g at → ⊥) → (checked c (out, words) r).0 ≡ Refused g at → (checked c (out, words) r).1 ≡ (out, words)
+  found_first : (c : Check) (g : Ground) (at : ℕ) → (r.0 ≡ Err (refusal g at) → ⊥) → (checked c (out, words) r).0 ≡ Err (refusal g at) → (checked c (out, words) r).1 ≡ (out, words)
   unfolding checked
-  found_first Clear g at never e = absurd (never e)
-  found_first (Fails h k) g at never e = refl
+  found_first (Ok none) g at never e = absurd (never e)
+  found_first (Err found) g at never e = refl
 
 -- where the checks find the same, and the same is written but for the words
 same-checked : (out words : List ℕ) (r : Answer × (List ℕ × List ℕ)) (c d : Check) → c ≡ d → without_words (checked c (out, words) r) ≡ checked d out (without_words r)
@@ -73,15 +71,15 @@ whatever : (out words other : List ℕ) (r q : Answer × (List ℕ × List ℕ))
 whatever out words other r q c d e f =
     without_words-checked out words r c ∙ ap₂ (λ (x : Check) (y : Answer × List ℕ). checked x out y) f e ∙ sym (without_words-checked out other q d)
 
-refused_as : (before : List ℕ × List ℕ) (r : Answer × (List ℕ × List ℕ)) (c : Check) (g : Ground) (at : ℕ) → c ≡ Fails g at → checked c before r ≡ (Refused g at, before)
+refused_as : (before : List ℕ × List ℕ) (r : Answer × (List ℕ × List ℕ)) (c : Check) (g : Ground) (at : ℕ) → c ≡ Err (refusal g at) → checked c before r ≡ (Err (refusal g at), before)
 unfolding checked
 refused_as before r c g at e = ap (λ (x : Check). checked x before r) e
 
 -- ---- no check finds 9
 
 abbrev is_nine : Check → Bool
-is_nine Clear = false
-is_nine (Fails g at) = eqb (ground_number g) 9
+is_nine (Ok none) = false
+is_nine (Err found) = eqb (ground_number found.why) 9
 
 nine-line : (t : Bool) (g : Ground) (next : Check) → eqb (ground_number g) 9 ≡ false → is_nine next ≡ false → is_nine (line t g next) ≡ false
 unfolding line line_at
@@ -95,14 +93,14 @@ open-not-nine mode rounds key nonce header parcel out words =
     (nine-line _ _ _ refl (nine-line _ _ _ refl (nine-line _ _ _ refl refl))))))))
 
 abbrev as_nine : Answer → Bool
-as_nine (Done n) = false
-as_nine (Refused g at) = eqb (ground_number g) 9
+as_nine (Ok n) = false
+as_nine (Err found) = eqb (ground_number found.why) 9
 
-nine-clear : (out words : List ℕ) (r : Answer × (List ℕ × List ℕ)) (c : Check) (at : ℕ) → is_nine c ≡ false → (checked c (out, words) r).0 ≡ Refused TagDiffers at
+nine-clear : (out words : List ℕ) (r : Answer × (List ℕ × List ℕ)) (c : Check) (at : ℕ) → is_nine c ≡ false → (checked c (out, words) r).0 ≡ Err (refusal TagDiffers at)
     → checked c (out, words) r ≡ r
 unfolding checked
-nine-clear out words r Clear at h e = refl
-nine-clear out words r (Fails g k) at h e = absurd (true≢false (sym (ap as_nine e) ∙ h))
+nine-clear out words r (Ok none) at h e = refl
+nine-clear out words r (Err found) at h e = absurd (true≢false (sym (ap as_nine e) ∙ h))
 
 -- ---- the buffer
 
@@ -115,16 +113,16 @@ holds start words header message b =
     ap (λ (l : List ℕ). l ++ drop n words) front
 
 -- too few words, where all else is clear
-short : (needed lent : ℕ) → lent < needed → room needed lent Clear ≡ Fails OutputLength 0
+short : (needed lent : ℕ) → lent < needed → room needed lent clear ≡ Err (refusal OutputLength 0)
 unfolding room line line_at
 short needed lent h = rw (lt-ltb lent needed h)
 
 -- the ground of a refusal
 abbrev ground_in : Answer → Ground
-ground_in (Done n) = TagDiffers
-ground_in (Refused g at) = g
+ground_in (Ok n) = TagDiffers
+ground_in (Err found) = found.why
 
-verdict-ground : (n : ℕ) (b : Bool) (out : List ℕ) (g : Ground) (at : ℕ) → (g ≡ TagDiffers → ⊥) → (verdict n (b, out)).0 ≡ Refused g at → ⊥
+verdict-ground : (n : ℕ) (b : Bool) (out : List ℕ) (g : Ground) (at : ℕ) → (g ≡ TagDiffers → ⊥) → (verdict n (b, out)).0 ≡ Err (refusal g at) → ⊥
 unfolding verdict
 verdict-ground n true out g at never e = true≢false (ap is_done e)
 verdict-ground n false out g at never e = never (sym (ap ground_in e))

@@ -10,11 +10,11 @@ use lib.Dec.{eqb, ltb, lit<}
 use lib.ListN.{length}
 use borrow.Author.Tests.{eqb-true, eq-eqb, ne_eqb, ltb-true, ltb-false, lt-ltb}
 use Rattle.words.proofs.Truth.{both, all_below, carried, equal-below}
-use Rattle.answers.specs.Answers.{room, checked, refused_or}
+use Rattle.std.specs.Prelude.{Result, Ok, Err}
+use Rattle.answers.specs.Refusals.{refusal}
+use Rattle.answers.specs.Answers.{room, checked, judged, Check, clear}
+use Rattle.answers.specs.declared.Refusal.{Refusal}
 use Rattle.answers.specs.declared.Ground.{Ground}
-use Rattle.answers.specs.declared.Check.{Check}
-use Rattle.answers.specs.declared.Check.TheVariants.{Clear, Fails}
-use Rattle.answers.specs.declared.Answer.TheVariants.{Refused as AnswerRefused}
 use Rattle.answers.proofs.Values.{after}
 use Rattle.mem.specs.Mem.{start_of, old_start_of}
 use Rattle.mem.proofs.Laws.{start-block, old-start-block}
@@ -25,7 +25,7 @@ use Rattle.sealing.specs.Sealing.{open_from, open_call, open_old_call}
 use Rattle.diagnosing.specs.declared.Setting.{Setting}
 use Rattle.diagnosing.specs.declared.Differs.{Differs}
 use Rattle.diagnosing.specs.declared.Diagnosis.{Diagnosis}
-use Rattle.diagnosing.specs.declared.Diagnosis.TheVariants.{AsAsked, Other, NoneOfSixteen, Refused}
+use Rattle.diagnosing.specs.declared.Diagnosis.TheVariants.{AsAsked, Other, NoneOfSixteen}
 use Rattle.diagnosing.specs.Diagnosing.{setting, with_counts, eight, sixteen, nth, unlike, differs, first_of, reason_at, reason_for, start_under, opens_under, diagnose_call, bit}
 use Rattle.diagnosing.proofs.Found.{first-opens, first-earlier, first-is, first-none}
 use Rattle.diagnosing.proofs.Trying.{sixteen-long}
@@ -191,25 +191,25 @@ abbrev kind_of : Diagnosis → ℕ
 kind_of AsAsked = 0
 kind_of (Other n d) = 1
 kind_of NoneOfSixteen = 2
-kind_of (Refused why place) = 3
 
 abbrev number_of : Diagnosis → ℕ
 number_of AsAsked = 0
 number_of (Other n d) = n
 number_of NoneOfSixteen = 0
-number_of (Refused why place) = place
 
-abbrev ground_in : Diagnosis → Check
-ground_in AsAsked = Clear
-ground_in (Other n d) = Clear
-ground_in NoneOfSixteen = Clear
-ground_in (Refused why place) = Fails why place
+-- the two answer alike
+abbrev Answered : Diagnosis → Diagnosis → Type 0
+Answered d e = ◌≡◌ {A = Result Diagnosis Refusal} (Ok d) (Ok e)
+
+-- the reason that was answered
+abbrev said : Result Diagnosis Refusal → Diagnosis
+said (Ok reason) = reason
+said (Err found) = AsAsked
 
 abbrev differs_of : Differs → Diagnosis → Differs
 differs_of none AsAsked = none
 differs_of none (Other n d) = d
 differs_of none NoneOfSixteen = none
-differs_of none (Refused why place) = none
 
 -- by the two tests that decide it
 abbrev decided : ℕ → Differs → Bool → Bool → Diagnosis
@@ -231,15 +231,10 @@ module _ (n : ℕ) (d : Differs) where
   is_none false true e = let k = ap kind_of e in absurd (omega arith)
   is_none false false e = (refl, refl)
 
-  no_other : (t u : Bool) → (decided n d t u ≡ AsAsked) ⊎ ((m : ℕ) × (c : Differs) × (decided n d t u ≡ Other m c)) ⊎ (decided n d t u ≡ NoneOfSixteen)
+  no_other : (t u : Bool) → Answered (decided n d t u) AsAsked ⊎ ((m : ℕ) × (c : Differs) × Answered (decided n d t u) (Other m c)) ⊎ Answered (decided n d t u) NoneOfSixteen
   no_other true u = inl refl
   no_other false true = inr (inl (n, d, refl))
   no_other false false = inr (inr refl)
-
-  not-refused : (t u : Bool) → ground_in (decided n d t u) ≡ Clear
-  not-refused true u = refl
-  not-refused false true = refl
-  not-refused false false = refl
 
 -- ---- the call
 
@@ -256,31 +251,31 @@ module _ (old : Bool) (mode rounds : ℕ) (key nonce header parcel : List ℕ) w
   abbrev differ : Differs
   differ = differs asked (nth sixteen first)
 
-  refused : (why : Ground) (place : ℕ) → open_inputs mode rounds (length key) (length nonce) (length header) (length parcel) Clear ≡ Fails why place
-      → Says old mode rounds key nonce header parcel (Refused why place)
-  unfolding diagnose_call refused_or
+  refused : (why : Ground) (place : ℕ) → open_inputs mode rounds (length key) (length nonce) (length header) (length parcel) clear ≡ Err (refusal why place)
+      → diagnose_call old mode rounds key nonce header parcel ≡ Err (refusal why place)
+  unfolding diagnose_call judged
   refused why place e = rw e
 
   -- what is refused is what the checks found
-  found-is : (c : Check) (why : Ground) (place : ℕ) → refused_or Refused c (reason_for test asked) ≡ Refused why place → c ≡ Fails why place
-  unfolding refused_or reason_for reason_at
-  found-is Clear why place e = sym (not-refused first differ (test asked) (ltb first 16)) ∙ ap ground_in e
-  found-is (Fails g at) why place e = ap ground_in e
+  found-is : (c : Check) (reason : Diagnosis) (why : Refusal) → judged c (Ok reason) ≡ Err why → c ≡ Err why
+  unfolding judged
+  found-is (Ok none) reason why e = absurd cc
+  found-is (Err found) reason why e = let q : found ≡ why = cc in ap Err q
 
-  refused-by : (start : ℕ → List ℕ → List ℕ → List ℕ) (why : Ground) (place : ℕ) → Says old mode rounds key nonce header parcel (Refused why place)
-      → (out : List ℕ) → open_from start mode rounds key nonce header parcel out ≡ (AnswerRefused why place, out)
+  refused-by : (start : ℕ → List ℕ → List ℕ → List ℕ) (why : Ground) (place : ℕ) → diagnose_call old mode rounds key nonce header parcel ≡ Err (refusal why place)
+      → (out : List ℕ) → open_from start mode rounds key nonce header parcel out ≡ (Err (refusal why place), out)
   unfolding diagnose_call open_from open_checks checked after
   refused-by start why place e out =
-      let c = found-is _ why place e in
-      rw (open_after mode rounds (length key) (length nonce) (length header) (length parcel) (room (length parcel - 32) (length out) Clear), c)
+      let c = found-is _ _ (refusal why place) e in
+      rw (open_after mode rounds (length key) (length nonce) (length header) (length parcel) (room (length parcel - 32) (length out) clear), c)
 
   module _ (𝓟 : Openable mode rounds key nonce header parcel) where
-    answers : diagnose_call old mode rounds key nonce header parcel ≡ decided first differ (test asked) (ltb first 16)
-    unfolding diagnose_call refused_or reason_for reason_at
+    answers : diagnose_call old mode rounds key nonce header parcel ≡ Ok (decided first differ (test asked) (ltb first 16))
+    unfolding diagnose_call judged reason_for reason_at
     answers = rw 𝓟.clear
 
     as-asked : Says old mode rounds key nonce header parcel AsAsked → OpensUnder key nonce header parcel asked
-    as-asked e = opens_at key nonce header parcel old mode rounds 𝓟 (is-as-asked first differ (test asked) (ltb first 16) (sym answers ∙ e))
+    as-asked e = opens_at key nonce header parcel old mode rounds 𝓟 (is-as-asked first differ (test asked) (ltb first 16) (ap said (sym answers ∙ e)))
 
     as-asked-there : OpensUnder key nonce header parcel asked → Says old mode rounds key nonce header parcel AsAsked
     as-asked-there o = answers ∙ rw (genuine-at key nonce header parcel old mode rounds 𝓟 o)
@@ -298,7 +293,7 @@ module _ (old : Bool) (mode rounds : ℕ) (key nonce header parcel : List ℕ) w
     other : (n : ℕ) (d : Differs) → Says old mode rounds key nonce header parcel (Other n d)
         → FirstOther key nonce header parcel asked n × SaysWhatDiffers asked (nth sixteen n) d
     other n d e =
-        let w = is-other first differ (test asked) (ltb first 16) n d (sym answers ∙ e) in
+        let w = is-other first differ (test asked) (ltb first 16) n d (ap said (sym answers ∙ e)) in
         let here = w.1.1.0 in (
           subst (λ (k : ℕ). FirstOther key nonce header parcel asked k) here (first-other w.0 w.1.0),
           subst (λ (c : Differs). SaysWhatDiffers asked (nth sixteen n) c) w.1.1.1
@@ -311,11 +306,11 @@ module _ (old : Bool) (mode rounds : ℕ) (key nonce header parcel : List ℕ) w
         let here : first ≡ n = first-is test sixteen n (subst (λ (k : ℕ). n < k) (sym sixteen-long) low)
         (λ m h. not-genuine-nth key nonce header parcel mode rounds 𝓟 m (omega arith) (o.earlier-shut m h)) (genuine-nth key nonce header parcel mode rounds 𝓟 n low o.opens) in
         let found : ltb first 16 ≡ true = ap (λ (k : ℕ). ltb k 16) here ∙ lt-ltb n 16 low in
-        (differ, answers ∙ rw (not-genuine-at key nonce header parcel old mode rounds 𝓟 o.asked-shut, found) (ap (λ (k : ℕ). Other k differ) here))
+        (differ, answers ∙ rw (not-genuine-at key nonce header parcel old mode rounds 𝓟 o.asked-shut, found) (ap (λ (k : ℕ). Ok (Other k differ)) here))
 
     none : Says old mode rounds key nonce header parcel NoneOfSixteen → (n : ℕ) → n < 16 → ShutUnder key nonce header parcel (nth sixteen n)
     none e n h =
-        let w = is_none first differ (test asked) (ltb first 16) (sym answers ∙ e) in
+        let w = is_none first differ (test asked) (ltb first 16) (ap said (sym answers ∙ e)) in
         let past = ltb-false first 16 w.1 in
         shut-nth key nonce header parcel mode rounds 𝓟 n h (first-earlier test sixteen n (omega arith))
 
@@ -346,8 +341,8 @@ module _ (old : Bool) (mode rounds : ℕ) (key nonce header parcel : List ℕ) w
     }
 
 refused-by-open : (old : Bool) (mode rounds : ℕ) (key nonce header parcel : List ℕ) (why : Ground) (place : ℕ)
-    → Says old mode rounds key nonce header parcel (Refused why place)
-    → (out : List ℕ) → opening_under old mode rounds key nonce header parcel out ≡ (AnswerRefused why place, out)
+    → diagnose_call old mode rounds key nonce header parcel ≡ Err (refusal why place)
+    → (out : List ℕ) → opening_under old mode rounds key nonce header parcel out ≡ (Err (refusal why place), out)
 unfolding open_call open_old_call
 refused-by-open true mode rounds key nonce header parcel why place e out = refused-by true mode rounds key nonce header parcel old_start_of why place e out
 refused-by-open false mode rounds key nonce header parcel why place e out = refused-by false mode rounds key nonce header parcel start_of why place e out

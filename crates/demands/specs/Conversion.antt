@@ -1,8 +1,8 @@
 -- What convert makes of parcels of the old start, and of every other (document 02, card 5). Assumes nothing.
-use Rattle.std.specs.Prelude.{◌≡◌, ◌⊎◌, List, ◌++◌, ℕ, ◌≤◌, length, drop}
+use Rattle.std.specs.Prelude.{◌≡◌, ◌⊎◌, List, ◌++◌, ℕ, ◌≤◌, length, drop, Ok, Err}
+use Rattle.answers.specs.Refusals.{refusal}
 use Rattle.answers.specs.declared.Ground.{Ground}
 use Rattle.answers.specs.declared.Ground.TheVariants.{TagDiffers, DoneAlready}
-use Rattle.answers.specs.declared.Answer.TheVariants.{Done, Refused}
 use Rattle.mem.specs.Mem.{old_start_of}
 use Rattle.sealing.specs.Sealing.{seal_from, seal_call, open_call, open_old_call}
 use Rattle.converting.specs.Converting.{convert_call}
@@ -18,7 +18,7 @@ module _ (mode rounds : ℕ) (key nonce header : List ℕ) where
   abbrev pub OpensConverted : List ℕ → List ℕ → Type 0
   OpensConverted parcel message =
       (new : List ℕ) × (length new ≡ length parcel)
-      × ((out : List ℕ) → length parcel ≤ length out → convert_call mode rounds key nonce header parcel out ≡ (Done (length parcel), new ++ drop (length parcel) out))
+      × ((out : List ℕ) → length parcel ≤ length out → convert_call mode rounds key nonce header parcel out ≡ (Ok (length parcel), new ++ drop (length parcel) out))
       × Opens open_call mode rounds key nonce header new message
 
   -- some message comes out of that parcel by that call
@@ -31,7 +31,7 @@ module _ (mode rounds : ℕ) (key nonce header : List ℕ) where
 
   -- convert refuses that parcel on that ground and changes no byte of an output that has room for a parcel
   abbrev pub RefusesUnchanged : Ground → List ℕ → Type 0
-  RefusesUnchanged why parcel = (out : List ℕ) → length parcel ≤ length out → convert_call mode rounds key nonce header parcel out ≡ (Refused why 0, out)
+  RefusesUnchanged why parcel = (out : List ℕ) → length parcel ≤ length out → convert_call mode rounds key nonce header parcel out ≡ (Err (refusal why 0), out)
 
   -- what convert does with a parcel, by how it opens
   pub record OneOfThree (parcel : List ℕ) : Type 0 where
@@ -55,4 +55,4 @@ pub record Conversion : Type 0 where
       → OneOfThree mode rounds key nonce header parcel
   -- a refusal, on whichever ground and for whatever arguments, changes no output
   pub unchanged : (mode rounds : ℕ) (key nonce header parcel out : List ℕ) (why : Ground) (place : ℕ)
-      → (convert_call mode rounds key nonce header parcel out).0 ≡ Refused why place → (convert_call mode rounds key nonce header parcel out).1 ≡ out
+      → (convert_call mode rounds key nonce header parcel out).0 ≡ Err (refusal why place) → (convert_call mode rounds key nonce header parcel out).1 ≡ out

@@ -1,24 +1,23 @@
 -- Demand 2: opening hands back the message of every sealed parcel and refuses every other with 9 (document 01, "Entry points" and "Block plan"). Assumes nothing.
-use Rattle.std.specs.Prelude.{◌≡◌, ◌⊎◌, List, ◌++◌, ℕ, ◌+◌, ◌-◌, ◌≤◌, length, drop}
+use Rattle.std.specs.Prelude.{◌≡◌, ◌⊎◌, List, ◌++◌, ℕ, ◌+◌, ◌-◌, ◌≤◌, length, drop, Ok, Err}
 use Rattle.words.specs.Sequence.{zeros}
 use Rattle.words.specs.Block.{Bytes}
+use Rattle.answers.specs.Refusals.{refusal}
+use Rattle.answers.specs.Answers.{clear, Answer}
 use Rattle.answers.specs.declared.Ground.TheVariants.{TagDiffers}
-use Rattle.answers.specs.declared.Check.TheVariants.{Clear}
-use Rattle.answers.specs.declared.Answer.{Answer}
-use Rattle.answers.specs.declared.Answer.TheVariants.{Done, Refused}
 use Rattle.checks.specs.Checks.{seal_inputs, open_inputs}
 
 module _ (mode rounds : ℕ) (key nonce header : List ℕ) where
   -- settings and a message that seal refuses on no ground, given room
   pub record Sealable (message : List ℕ) : Type 0 where
-    pub clear : seal_inputs mode rounds (length key) (length nonce) (length header) (length message) Clear ≡ Clear
+    pub clear : seal_inputs mode rounds (length key) (length nonce) (length header) (length message) clear ≡ clear
     pub key-bytes : Bytes key
     pub nonce-bytes : Bytes nonce
     pub bytes : Bytes message
 
   -- settings and a parcel that open refuses on no ground but 9, given room
   pub record Openable (parcel : List ℕ) : Type 0 where
-    pub clear : open_inputs mode rounds (length key) (length nonce) (length header) (length parcel) Clear ≡ Clear
+    pub clear : open_inputs mode rounds (length key) (length nonce) (length header) (length parcel) clear ≡ clear
     pub key-bytes : Bytes key
     pub nonce-bytes : Bytes nonce
     pub bytes : Bytes parcel
@@ -31,21 +30,21 @@ Call = ℕ → ℕ → List ℕ → List ℕ → List ℕ → List ℕ → List 
 abbrev pub Seals : Call → ℕ → ℕ → List ℕ → List ℕ → List ℕ → List ℕ → List ℕ → Type 0
 Seals sealing mode rounds key nonce header message parcel =
     (out : List ℕ) → length message + 32 ≤ length out
-    → sealing mode rounds key nonce header message out ≡ (Done (length message + 32), parcel ++ drop (length message + 32) out)
+    → sealing mode rounds key nonce header message out ≡ (Ok (length message + 32), parcel ++ drop (length message + 32) out)
 
 module _ (opening : Call) (mode rounds : ℕ) (key nonce header : List ℕ) where
   -- open writes that message for that parcel, into every output that has room for it
   abbrev pub Opens : List ℕ → List ℕ → Type 0
   Opens parcel message =
       (out : List ℕ) → length message ≤ length out
-      → opening mode rounds key nonce header parcel out ≡ (Done (length message), message ++ drop (length message) out)
+      → opening mode rounds key nonce header parcel out ≡ (Ok (length message), message ++ drop (length message) out)
 
   -- open refuses that parcel with 9, and leaves zeros where a message would have stood
   abbrev pub Refuses : List ℕ → Type 0
   Refuses parcel =
       (out : List ℕ) → length parcel - 32 ≤ length out
       → opening mode rounds key nonce header parcel out
-      ≡ (Refused TagDiffers 0, zeros (length parcel - 32) ++ drop (length parcel - 32) out)
+      ≡ (Err (refusal TagDiffers 0), zeros (length parcel - 32) ++ drop (length parcel - 32) out)
 
 module _ (sealing opening : Call) (mode rounds : ℕ) (key nonce header : List ℕ) where
   -- open of what seal writes hands back that message

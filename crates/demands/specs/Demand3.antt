@@ -1,10 +1,8 @@
 -- Demand 3: the order of mask steps counts for nothing. One claim about the whole list (document 01, "Entry points"). Assumes nothing.
-use Rattle.std.specs.Prelude.{◌≡◌, cond, List, [], ◌∷◌, ◌++◌, ℕ, suc, ◌+◌, ◌≤◌, ◌<◌, eqb, ℤ, pos, ◌-ℤ◌, length, get_or, drop}
+use Rattle.std.specs.Prelude.{◌≡◌, cond, List, [], ◌∷◌, ◌++◌, ℕ, suc, ◌+◌, ◌≤◌, ◌<◌, eqb, ℤ, pos, ◌-ℤ◌, length, get_or, drop, Ok}
 use Rattle.words.specs.Sequence.{zeros}
 use Rattle.words.specs.Block.{Bytes, xor_bytes}
-use Rattle.answers.specs.Answers.{room, checked}
-use Rattle.answers.specs.declared.Check.TheVariants.{Clear}
-use Rattle.answers.specs.declared.Answer.TheVariants.{Done}
+use Rattle.answers.specs.Answers.{room, checked, clear}
 use Rattle.walking.specs.Walking.{walk_call, jump_call}
 
 -- a 128-byte start or block
@@ -38,11 +36,11 @@ pub record Demand3 : Type 0 where
       → walk_call start steps out ≡ jump_call start (net 1 steps) (net 2 steps) (net 3 steps) out
   -- it can be refused with 7 alone, and then changes no byte; else it writes the mask and leaves the rest
   pub only-seven : (start steps out : List ℕ) → Start start → Steps steps
-      → walk_call start steps out ≡ checked (room 128 (length out) Clear) out (Done 128, mask start steps ++ drop 128 out)
+      → walk_call start steps out ≡ checked (room 128 (length out) clear) out (Ok 128, mask start steps ++ drop 128 out)
   -- and so can the jump by the list's net counts
   pub jump-only-seven : (start steps out : List ℕ) → Start start → Steps steps
       → jump_call start (net 1 steps) (net 2 steps) (net 3 steps) out
-      ≡ checked (room 128 (length out) Clear) out (Done 128, mask start steps ++ drop 128 out)
+      ≡ checked (room 128 (length out) clear) out (Ok 128, mask start steps ++ drop 128 out)
   -- so two lists with the same net counts end alike
   pub same-nets : (start l m out : List ℕ) → Start start → Steps l → Steps m
       → net 1 l ≡ net 1 m → net 2 l ≡ net 2 m → net 3 l ≡ net 3 m → walk_call start l out ≡ walk_call start m out

@@ -1,15 +1,13 @@
 -- All masks come from one run of words, and sealing and opening from the run are sealing and opening (document 02, card 6). Assumes nothing.
-use Rattle.std.specs.Prelude.{◌≡◌, List, ◌++◌, ℕ, suc, ◌+◌, ◌-◌, ◌≤◌, ◌<◌, length, get_or, drop}
+use Rattle.std.specs.Prelude.{◌≡◌, List, ◌++◌, ℕ, suc, ◌+◌, ◌-◌, ◌≤◌, ◌<◌, length, get_or, drop, Ok, Err}
 use Rattle.std.specs.Int.Bits.{bit_xor}
 use Rattle.words.specs.Sequence.{tab, times}
 use Rattle.words.specs.Word.{rot_l, shl}
 use Rattle.words.specs.Block.{Block, Bytes, xor_block}
+use Rattle.answers.specs.Refusals.{refusal}
+use Rattle.answers.specs.Answers.{Check, clear, Answer}
 use Rattle.answers.specs.declared.Ground.{Ground}
 use Rattle.answers.specs.declared.Ground.TheVariants.{OutputLength, TagDiffers}
-use Rattle.answers.specs.declared.Check.{Check}
-use Rattle.answers.specs.declared.Check.TheVariants.{Clear, Fails}
-use Rattle.answers.specs.declared.Answer.{Answer}
-use Rattle.answers.specs.declared.Answer.TheVariants.{Done, Refused}
 use Rattle.masks.specs.Steps.{alpha, beta, gamma}
 use Rattle.masks.specs.Run.{run, grown}
 use Rattle.mem.specs.Mem.{start_of, mask_at}
@@ -74,21 +72,21 @@ module _ (mode rounds : ℕ) (key nonce header input out words : List ℕ) where
     pub seals : seal_words ≤ length words → without_words sealed_from_run ≡ seal_call mode rounds key nonce header input out
     pub opens : open_words ≤ length words → without_words opened_from_run ≡ open_call mode rounds key nonce header input out
     -- what seal and open refuse by their checks is refused as they do, however many words there are, and nothing changes
-    pub seals-refused : (why : Ground) (place : ℕ) → seal_finds ≡ Fails why place → sealed_from_run ≡ (Refused why place, (out, words))
-    pub opens-refused : (why : Ground) (place : ℕ) → open_finds ≡ Fails why place → opened_from_run ≡ (Refused why place, (out, words))
+    pub seals-refused : (why : Ground) (place : ℕ) → seal_finds ≡ Err (refusal why place) → sealed_from_run ≡ (Err (refusal why place), (out, words))
+    pub opens-refused : (why : Ground) (place : ℕ) → open_finds ≡ Err (refusal why place) → opened_from_run ≡ (Err (refusal why place), (out, words))
     -- words too few: 7, where the checks of seal or open find nothing, and nothing changes; so it comes before open's 9
-    pub seals-short : seal_finds ≡ Clear → length words < seal_words → sealed_from_run ≡ (Refused OutputLength 0, (out, words))
-    pub opens-short : open_finds ≡ Clear → length words < open_words → opened_from_run ≡ (Refused OutputLength 0, (out, words))
+    pub seals-short : seal_finds ≡ clear → length words < seal_words → sealed_from_run ≡ (Err (refusal OutputLength 0), (out, words))
+    pub opens-short : open_finds ≡ clear → length words < open_words → opened_from_run ≡ (Err (refusal OutputLength 0), (out, words))
     -- what stood in the words does not matter, only how many there are
     pub seals-whatever : (other : List ℕ) → length words ≡ length other → without_words sealed_from_run ≡ without_words (seal_run_call mode rounds key nonce header input out other)
     pub opens-whatever : (other : List ℕ) → length words ≡ length other → without_words opened_from_run ≡ without_words (open_run_call mode rounds key nonce header input out other)
     -- after success, and after 9, the words hold the run
-    pub seals-words : Bytes key → Bytes nonce → (n : ℕ) → sealed_from_run.0 ≡ Done n → HoldsRun seal_words sealed_from_run
-    pub opens-words : Bytes key → Bytes nonce → (n : ℕ) → opened_from_run.0 ≡ Done n → HoldsRun open_words opened_from_run
-    pub nine_words : Bytes key → Bytes nonce → (place : ℕ) → opened_from_run.0 ≡ Refused TagDiffers place → HoldsRun open_words opened_from_run
+    pub seals-words : Bytes key → Bytes nonce → (n : ℕ) → sealed_from_run.0 ≡ Ok n → HoldsRun seal_words sealed_from_run
+    pub opens-words : Bytes key → Bytes nonce → (n : ℕ) → opened_from_run.0 ≡ Ok n → HoldsRun open_words opened_from_run
+    pub nine_words : Bytes key → Bytes nonce → (place : ℕ) → opened_from_run.0 ≡ Err (refusal TagDiffers place) → HoldsRun open_words opened_from_run
     -- any other refusal changes nothing
-    pub seals-unchanged : (why : Ground) (place : ℕ) → sealed_from_run.0 ≡ Refused why place → sealed_from_run.1 ≡ (out, words)
-    pub opens-unchanged : (why : Ground) (place : ℕ) → (why ≡ TagDiffers → ⊥) → opened_from_run.0 ≡ Refused why place → opened_from_run.1 ≡ (out, words)
+    pub seals-unchanged : (why : Ground) (place : ℕ) → sealed_from_run.0 ≡ Err (refusal why place) → sealed_from_run.1 ≡ (out, words)
+    pub opens-unchanged : (why : Ground) (place : ℕ) → (why ≡ TagDiffers → ⊥) → opened_from_run.0 ≡ Err (refusal why place) → opened_from_run.1 ≡ (out, words)
 
 -- for every argument
 abbrev pub SameEngine : Type 0

@@ -1,9 +1,8 @@
 -- What C reads off the one number that each exported call returns (document 01, "Entry points": a refusal's number and its place). Assumes nothing.
-use Rattle.std.specs.Prelude.{◌≡◌, Bool, List, ℕ, ◌/◌, ◌%◌, ◌^◌, ◌<◌, ℤ}
+use Rattle.std.specs.Prelude.{◌≡◌, Bool, List, ℕ, ◌/◌, ◌%◌, ◌^◌, ◌<◌, ℤ, Result, Ok}
 use Rattle.words.specs.Block.{Bytes}
-use Rattle.answers.specs.Answers.{number_of, value_of, code_of, judged, shown}
-use Rattle.answers.specs.declared.Answer.{Answer}
-use Rattle.answers.specs.declared.Answer.TheVariants.{Done}
+use Rattle.answers.specs.declared.Refusal.{Refusal}
+use Rattle.answers.specs.Answers.{number_of, value_of, code_of, judged, shown, Answer}
 use Rattle.sealing.specs.Sealing.{seal_call, open_call, open_old_call}
 use Rattle.converting.specs.Converting.{convert_call}
 use Rattle.diagnosing.specs.Diagnosing.{diagnose_call, reason_told}
@@ -43,6 +42,6 @@ pub record ForC : Type 0 where
       → code_of (reason_told (diagnose_call old mode rounds key nonce header parcel)) ≡ code_of (reason_told (diagnose_call old' mode' rounds' key' nonce' header' parcel'))
       → diagnose_call old mode rounds key nonce header parcel ≡ diagnose_call old' mode' rounds' key' nonce' header' parcel'
   -- where a look-up is not refused its value is the kind byte of the sale's cell
-  pub look-up-kind : (key : List ℕ) (machine sale : ℕ) (s : List ℕ) → kind_told (look_up_call key machine sale s) ≡ judged (cancel_checks key machine sale s) (Done (kind_of s (cell_named machine sale s)))
+  pub look-up-kind : (key : List ℕ) (machine sale : ℕ) (s : List ℕ) → kind_told (look_up_call key machine sale s) ≡ judged (cancel_checks key machine sale s) (Ok (kind_of s (cell_named machine sale s)))
   -- C can tell every two look-ups apart by the number and the two variables, whatever these held before each: so "a mark for no price" is "told apart from price 0" and from every other
-  pub look-ups-apart : (a b : LookUp) (amount price amount' price' : ℕ) → value_of (kind_told a) < 2 ^ 32 → value_of (kind_told b) < 2 ^ 32 → looked_up a amount price ≡ looked_up b amount' price' → a ≡ b
+  pub look-ups-apart : (a b : Result LookUp Refusal) (amount price amount' price' : ℕ) → value_of (kind_told a) < 2 ^ 32 → value_of (kind_told b) < 2 ^ 32 → looked_up a amount price ≡ looked_up b amount' price' → a ≡ b

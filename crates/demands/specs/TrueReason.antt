@@ -1,14 +1,14 @@
 -- The reason that diagnose gives is true (document 02, card 9: "The reason is to be proved true"). Assumes nothing.
-use Rattle.std.specs.Prelude.{◌≡◌, Bool, true, false, ◌⊎◌, ◌≢◌, List, ℕ, ◌<◌, length}
+use Rattle.std.specs.Prelude.{◌≡◌, Bool, true, false, ◌⊎◌, ◌≢◌, List, ℕ, ◌<◌, length, Ok, Err}
+use Rattle.answers.specs.Refusals.{refusal}
+use Rattle.answers.specs.Answers.{clear}
 use Rattle.answers.specs.declared.Ground.{Ground}
-use Rattle.answers.specs.declared.Check.TheVariants.{Clear, Fails}
-use Rattle.answers.specs.declared.Answer.TheVariants.{Refused as AnswerRefused}
 use Rattle.checks.specs.Checks.{is_mode, is_rounds, open_inputs}
 use Rattle.sealing.specs.Sealing.{open_call, open_old_call}
 use Rattle.diagnosing.specs.declared.Setting.{Setting}
 use Rattle.diagnosing.specs.declared.Differs.{Differs}
 use Rattle.diagnosing.specs.declared.Diagnosis.{Diagnosis}
-use Rattle.diagnosing.specs.declared.Diagnosis.TheVariants.{AsAsked, Other, NoneOfSixteen, Refused}
+use Rattle.diagnosing.specs.declared.Diagnosis.TheVariants.{AsAsked, Other, NoneOfSixteen}
 use Rattle.diagnosing.specs.Diagnosing.{setting, sixteen, nth, diagnose_call}
 use Rattle.demands.specs.Demand2.{Openable, Call}
 use Rattle.demands.specs.Conversion.{Opened, Unopened}
@@ -44,9 +44,9 @@ pub record SaysWhatDiffers (asked other : Setting) (d : Differs) : Type 0 where
   pub rounds-agree : d.rounds ≡ false → asked.rounds ≡ other.rounds
 
 module _ (old : Bool) (mode rounds : ℕ) (key nonce header parcel : List ℕ) where
-  -- what the call answers
+  -- the call answers that reason
   abbrev pub Says : Diagnosis → Type 0
-  Says d = diagnose_call old mode rounds key nonce header parcel ≡ d
+  Says d = diagnose_call old mode rounds key nonce header parcel ≡ Ok d
 
   -- each reason is given exactly where it holds
   pub record Reasons : Type 0 where
@@ -70,11 +70,11 @@ pub record TrueReason : Type 0 where
   pub listed-once : (m n : ℕ) → m < 16 → n < 16 → nth sixteen m ≡ nth sixteen n → m ≡ n
   -- "Checks as open's up to 6": what they find is refused; and what is refused, the call that opens under the start asked refuses on the same ground, at the same place, whatever its output
   pub refused : (old : Bool) (mode rounds : ℕ) (key nonce header parcel : List ℕ) (why : Ground) (place : ℕ)
-      → open_inputs mode rounds (length key) (length nonce) (length header) (length parcel) Clear ≡ Fails why place
-      → diagnose_call old mode rounds key nonce header parcel ≡ Refused why place
+      → open_inputs mode rounds (length key) (length nonce) (length header) (length parcel) clear ≡ Err (refusal why place)
+      → diagnose_call old mode rounds key nonce header parcel ≡ Err (refusal why place)
   pub refused-by-open : (old : Bool) (mode rounds : ℕ) (key nonce header parcel : List ℕ) (why : Ground) (place : ℕ)
-      → diagnose_call old mode rounds key nonce header parcel ≡ Refused why place
-      → (out : List ℕ) → opening_under old mode rounds key nonce header parcel out ≡ (AnswerRefused why place, out)
+      → diagnose_call old mode rounds key nonce header parcel ≡ Err (refusal why place)
+      → (out : List ℕ) → opening_under old mode rounds key nonce header parcel out ≡ (Err (refusal why place), out)
   -- of every parcel that open refuses on no ground but 9, given room, the reason
   pub reasons : (old : Bool) (mode rounds : ℕ) (key nonce header parcel : List ℕ) → Openable mode rounds key nonce header parcel
       → Reasons old mode rounds key nonce header parcel

@@ -8,28 +8,32 @@ use native.Mathlib.Omega.{arith}
 use lib.Dec.{eqb, ltb, lit<, lit≤}
 use lib.ListN.{length}
 use borrow.Author.Tests.{ltb-true, ne_eqb}
-use Rattle.answers.specs.Answers.{value_of, code_of, refused_or}
-use Rattle.answers.specs.declared.Check.{Check}
-use Rattle.answers.specs.declared.Check.TheVariants.{Clear, Fails}
-use Rattle.answers.specs.declared.Answer.{Answer}
-use Rattle.answers.specs.declared.Answer.TheVariants.{Done, Refused as AnswerRefused}
+use Rattle.std.specs.Prelude.{Result, Ok, Err}
+use Rattle.std.specs.Int.{from_bool}
+use Rattle.answers.specs.Answers.{Check, clear, Answer, value_of, code_of, judged}
+use Rattle.answers.specs.declared.Refusal.{Refusal}
 use Rattle.answers.proofs.Numbers.{told-apart}
 use Rattle.answers.proofs.Values.{place_of}
 use Rattle.checks.proofs.Clears.{parcel-place}
 use Rattle.diagnosing.specs.declared.Setting.{Setting}
 use Rattle.diagnosing.specs.declared.Differs.{Differs}
 use Rattle.diagnosing.specs.declared.Diagnosis.{Diagnosis}
-use Rattle.diagnosing.specs.declared.Diagnosis.TheVariants.{AsAsked, Other, NoneOfSixteen, Refused}
-use Rattle.diagnosing.specs.Diagnosing.{sixteen, nth, differs, first_of, reason_at, reason_for, diagnose_call, bit, differ_number, reason_told}
+use Rattle.diagnosing.specs.declared.Diagnosis.TheVariants.{AsAsked, Other, NoneOfSixteen}
+use Rattle.diagnosing.specs.Diagnosing.{sixteen, nth, differs, first_of, reason_at, reason_for, diagnose_call, bit, differ_number, reason_number, reason_told}
 use Rattle.diagnosing.proofs.Reasons.{reason-either}
 
 pub bit-most : (b : Bool) → bit b ≤ 1
 bit-most true = lit≤ tt
 bit-most false = lit≤ tt
 
-pub differ-most : (d : Differs) → differ_number d ≤ 7
+pub differ_most : (d : Differs) → differ_number d ≤ 7
 unfolding differ_number
-differ-most d = omega (arith, bit-most d.start, bit-most d.mode, bit-most d.rounds)
+differ_most d = omega (arith, bit-most d.start, bit-most d.mode, bit-most d.rounds)
+
+-- 1 where it is true, as the library has it
+pub bit_is : (b : Bool) → from_bool b ≡ bit b
+bit_is true = refl
+bit_is false = refl
 
 -- ---- what the call can say: a setting of the sixteen, and a place below 2^32
 
@@ -37,7 +41,10 @@ abbrev Sayable : Diagnosis → Type 0
 Sayable AsAsked = Unit
 Sayable (Other n d) = n < 16
 Sayable NoneOfSixteen = Unit
-Sayable (Refused why place) = place < 2 ^ 32
+
+abbrev Answerable : Result Diagnosis Refusal → Type 0
+Answerable (Ok reason) = Sayable reason
+Answerable (Err found) = found.place < 2 ^ 32
 
 at-sayable : (asked : Setting) (n : ℕ) → Sayable (reason_at asked n)
 unfolding reason_at
@@ -50,27 +57,31 @@ at-sayable asked n = decided _ refl
 reason-sayable : (test : Setting → Bool) (asked : Setting) → Sayable (reason_for test asked)
 reason-sayable test asked = reason-either test asked Sayable tt (at-sayable asked (first_of test sixteen))
 
-checked-sayable : (c : Check) (d : Diagnosis) → place_of c < 2 ^ 32 → Sayable d → Sayable (refused_or Refused c d)
-unfolding refused_or
-checked-sayable Clear d h k = k
-checked-sayable (Fails g at) d h k = h
+checked-answerable : (c : Check) (r : Result Diagnosis Refusal) → place_of c < 2 ^ 32 → Answerable r → Answerable (judged c r)
+unfolding judged
+checked-answerable (Ok none) r h k = k
+checked-answerable (Err found) r h k = h
 
-call-sayable : (old : Bool) (mode rounds : ℕ) (key nonce header parcel : List ℕ) → Sayable (diagnose_call old mode rounds key nonce header parcel)
+call-answerable : (old : Bool) (mode rounds : ℕ) (key nonce header parcel : List ℕ) → Answerable (diagnose_call old mode rounds key nonce header parcel)
 unfolding diagnose_call
-call-sayable old mode rounds key nonce header parcel =
-    checked-sayable _ _ (parcel-place mode rounds (length key) (length nonce) (length header) (length parcel) (2 ^ 32) Clear (lit< tt) (lit< tt)) (reason-sayable _ _)
+call-answerable old mode rounds key nonce header parcel =
+    checked-answerable _ _ (parcel-place mode rounds (length key) (length nonce) (length header) (length parcel) (2 ^ 32) clear (lit< tt) (lit< tt)) (reason-sayable _ _)
 
 -- ---- its value is small
 
-sayable-lt : (d : Diagnosis) → Sayable d → value_of (reason_told d) < 2 ^ 32
+number-lt : (d : Diagnosis) → Sayable d → reason_number d < 2 ^ 32
+unfolding reason_number
+number-lt AsAsked h = lit< tt
+number-lt (Other n d) h = omega (arith, differ_most d)
+number-lt NoneOfSixteen h = lit< tt
+
+answerable-lt : (r : Result Diagnosis Refusal) → Answerable r → value_of (reason_told r) < 2 ^ 32
 unfolding reason_told
-sayable-lt AsAsked h = lit< tt
-sayable-lt (Other n d) h = omega (arith, differ-most d)
-sayable-lt NoneOfSixteen h = lit< tt
-sayable-lt (Refused g at) h = h
+answerable-lt (Ok reason) h = number-lt reason h
+answerable-lt (Err found) h = h
 
 pub diagnose-small : (old : Bool) (mode rounds : ℕ) (key nonce header parcel : List ℕ) → value_of (reason_told (diagnose_call old mode rounds key nonce header parcel)) < 2 ^ 32
-diagnose-small old mode rounds key nonce header parcel = sayable-lt _ (call-sayable old mode rounds key nonce header parcel)
+diagnose-small old mode rounds key nonce header parcel = answerable-lt _ (call-answerable old mode rounds key nonce header parcel)
 
 -- ---- and tells the diagnosis
 
@@ -91,11 +102,14 @@ differs-back d = each d.start d.mode d.rounds
     each false false true = refl
     each false false false = refl
 
-abbrev diagnosis_of : Answer → Diagnosis
-diagnosis_of (Done v) = cond (eqb v 0) AsAsked (cond (eqb v 255) NoneOfSixteen (Other ((v - 1) % 32) (differs_of ((v - 1) / 32))))
-diagnosis_of (AnswerRefused why place) = Refused why place
+abbrev reason_of : ℕ → Diagnosis
+reason_of v = cond (eqb v 0) AsAsked (cond (eqb v 255) NoneOfSixteen (Other ((v - 1) % 32) (differs_of ((v - 1) / 32))))
 
-other-back : (n k v : ℕ) → n < 16 → k ≤ 7 → v ≡ 1 + n + 32 * k → diagnosis_of (Done v) ≡ Other n (differs_of k)
+abbrev found_of : Answer → Result Diagnosis Refusal
+found_of (Ok v) = Ok (reason_of v)
+found_of (Err found) = Err found
+
+other-back : (n k v : ℕ) → n < 16 → k ≤ 7 → v ≡ 1 + n + 32 * k → reason_of v ≡ Other n (differs_of k)
 other-back n k v h l e =
     let some : v ≢ 0 = λ q. absurd (omega arith) in
     let low : v ≢ 255 = λ q. absurd (omega arith) in
@@ -103,17 +117,21 @@ other-back n k v h l e =
     let differ : (v - 1) / 32 ≡ k = omega arith in
     rw (ne_eqb v 0 some, ne_eqb v 255 low, at, differ)
 
-diagnosis-back : (d : Diagnosis) → Sayable d → diagnosis_of (reason_told d) ≡ d
+reason-back : (d : Diagnosis) → Sayable d → reason_of (reason_number d) ≡ d
+unfolding reason_number
+reason-back AsAsked h = refl
+reason-back (Other n d) h = other-back n (differ_number d) _ h (differ_most d) refl ∙ ap (Other n) (differs-back d)
+reason-back NoneOfSixteen h = refl
+
+found-back : (r : Result Diagnosis Refusal) → Answerable r → found_of (reason_told r) ≡ r
 unfolding reason_told
-diagnosis-back AsAsked h = refl
-diagnosis-back (Other n d) h = other-back n (differ_number d) _ h (differ-most d) refl ∙ ap (Other n) (differs-back d)
-diagnosis-back NoneOfSixteen h = refl
-diagnosis-back (Refused g at) h = refl
+found-back (Ok reason) h = ap Ok (reason-back reason h)
+found-back (Err found) h = refl
 
 pub diagnoses-apart : (old old' : Bool) (mode rounds mode' rounds' : ℕ) (key nonce header parcel key' nonce' header' parcel' : List ℕ)
     → code_of (reason_told (diagnose_call old mode rounds key nonce header parcel)) ≡ code_of (reason_told (diagnose_call old' mode' rounds' key' nonce' header' parcel'))
     → diagnose_call old mode rounds key nonce header parcel ≡ diagnose_call old' mode' rounds' key' nonce' header' parcel'
 diagnoses-apart old old' mode rounds mode' rounds' key nonce header parcel key' nonce' header' parcel' e =
-    let h = call-sayable old mode rounds key nonce header parcel in
-    let h' = call-sayable old' mode' rounds' key' nonce' header' parcel' in
-    sym (diagnosis-back _ h) ∙ ap diagnosis_of (told-apart _ _ (sayable-lt _ h) (sayable-lt _ h') e) ∙ diagnosis-back _ h'
+    let h = call-answerable old mode rounds key nonce header parcel in
+    let h' = call-answerable old' mode' rounds' key' nonce' header' parcel' in
+    sym (found-back _ h) ∙ ap found_of (told-apart _ _ (answerable-lt _ h) (answerable-lt _ h') e) ∙ found-back _ h'

@@ -1,6 +1,6 @@
 -- What is tried over a start is what opens under the setting; the settings by their number; the starts that OPP leaves for MRO. Assumes nothing.
 use mathlib.Core.Path.{◌≡◌, refl, sym, ap, ap₂, ◌∙◌}
-use mathlib.Core.Bool.{Bool, true, false, not, cond, ◌&&◌, ◌||◌, false≢true}
+use mathlib.Core.Bool.{Bool, true, false, not, beq, cond, ◌&&◌, ◌||◌, false≢true}
 use mathlib.Core.Logic.{◌≢◌}
 use mathlib.Core.List.{List, []}
 use Prim.Native.Nat.{ℕ, ◌+◌, ◌-◌, ◌/◌, ◌%◌, ◌≤◌, ◌<◌}
@@ -21,6 +21,20 @@ use Rattle.diagnosing.specs.Trying.{is_same, tries}
 
 -- ---- the same setting
 
+pub unlike_is : (a b : Bool) → not (beq a b) ≡ unlike a b
+unfolding unlike
+unlike_is true true = refl
+unlike_is true false = refl
+unlike_is false true = refl
+unlike_is false false = refl
+
+pub beq-is : (a b : Bool) → beq a b ≡ not (unlike a b)
+unfolding unlike
+beq-is true true = refl
+beq-is true false = refl
+beq-is false true = refl
+beq-is false false = refl
+
 pub alike : (a b : Bool) → not (unlike a b) ≡ true → a ≡ b
 unfolding unlike
 alike true true e = refl
@@ -37,6 +51,11 @@ same-is a s e =
     let m = eqb-true a.mode s.mode q.0 in
     let r = eqb-true a.rounds s.rounds q.1 in
     λ i. record { old = o i; mode = m i; rounds = r i }
+
+-- equality of settings, as it is derived
+pub eq-same : (a s : Setting) → (beq a.old s.old && (eqb a.mode s.mode && eqb a.rounds s.rounds)) ≡ is_same a s
+unfolding is_same
+eq-same a s = ap (λ (t : Bool). t && (eqb a.mode s.mode && eqb a.rounds s.rounds)) (beq-is a.old s.old)
 
 -- the start goes by old or new and by the count alone
 pub start-same : (key nonce : List ℕ) (a s : Setting) → a.old ≡ s.old → a.rounds ≡ s.rounds → start_under key nonce a ≡ start_under key nonce s
@@ -80,9 +99,9 @@ old-is : (n : ℕ) → n < 16 → leb 8 n ≡ (nth sixteen n).old
 unfolding sixteen eight with_counts round_counts setting nth all_below unlike
 old-is n h = alike (leb 8 n) (nth sixteen n).old (carried (λ k. not (unlike (leb 8 k) (nth sixteen k).old)) 16 refl n h)
 
-pub nth-is : (n : ℕ) {rounds : ℕ} → n < 16 → rounds ≡ get_or round_counts (n % 4) 0
+pub nth_is : (n rounds : ℕ) → n < 16 → rounds ≡ get_or round_counts (n % 4) 0
     → ◌≡◌ {A = Setting} (record { old = leb 8 n; mode = 1 + n / 4 % 2; rounds = rounds }) (nth sixteen n)
-nth-is n h e =
+nth_is n rounds h e =
     let o = old-is n h in
     let m = mode-is n h in
     let r = e ∙ rounds-are n h in

@@ -1,9 +1,7 @@
 -- Why a parcel won't open (document 02, card 9). Assumes nothing.
-use Rattle.std.specs.Prelude.{Bool, true, false, not, cond, List, [], ◌∷◌, ◌++◌, ℕ, zero, suc, ◌+◌, ◌*◌, eqb, ltb, length}
-use Rattle.answers.specs.Answers.{refused_or}
-use Rattle.answers.specs.declared.Check.TheVariants.{Clear}
-use Rattle.answers.specs.declared.Answer.{Answer}
-use Rattle.answers.specs.declared.Answer.TheVariants.{Done, Refused as AnswerRefused}
+use Rattle.std.specs.Prelude.{Bool, true, false, not, cond, List, [], ◌∷◌, ◌++◌, ℕ, zero, suc, ◌+◌, ◌*◌, eqb, ltb, length, Result, Ok, Err}
+use Rattle.answers.specs.Answers.{Answer, clear, judged}
+use Rattle.answers.specs.declared.Refusal.{Refusal}
 use Rattle.mem.specs.Mem.{start_for}
 use Rattle.blockplan.specs.Parcel.{genuine}
 use Rattle.checks.specs.Checks.{round_counts, open_inputs}
@@ -11,7 +9,7 @@ use Rattle.modes.specs.Modes.{mode_of}
 use Rattle.diagnosing.specs.declared.Setting.{Setting}
 use Rattle.diagnosing.specs.declared.Differs.{Differs}
 use Rattle.diagnosing.specs.declared.Diagnosis.{Diagnosis}
-use Rattle.diagnosing.specs.declared.Diagnosis.TheVariants.{AsAsked, Other, NoneOfSixteen, Refused}
+use Rattle.diagnosing.specs.declared.Diagnosis.TheVariants.{AsAsked, Other, NoneOfSixteen}
 
 -- ---- the sixteen settings
 
@@ -80,10 +78,10 @@ unfoldable pub opens_under : List ℕ → List ℕ → List ℕ → List ℕ →
 opens_under key nonce header parcel s = genuine (mode_of s.mode s.rounds (start_under key nonce s)) header parcel
 
 -- "Checks as open's up to 6", then the reason
-unfoldable pub diagnose_call : Bool → ℕ → ℕ → List ℕ → List ℕ → List ℕ → List ℕ → Diagnosis
+unfoldable pub diagnose_call : Bool → ℕ → ℕ → List ℕ → List ℕ → List ℕ → List ℕ → Result Diagnosis Refusal
 diagnose_call old mode rounds key nonce header parcel =
-    refused_or Refused (open_inputs mode rounds (length key) (length nonce) (length header) (length parcel) Clear)
-    (reason_for (opens_under key nonce header parcel) (setting old mode rounds))
+    judged (open_inputs mode rounds (length key) (length nonce) (length header) (length parcel) clear)
+    (Ok (reason_for (opens_under key nonce header parcel) (setting old mode rounds)))
 
 -- ---- each case as an answer, with its number. From here on for C; no passage of documents 01 and 02
 
@@ -96,9 +94,13 @@ bit false = 0
 unfoldable pub differ_number : Differs → ℕ
 differ_number d = bit d.start + 2 * bit d.mode + 4 * bit d.rounds
 
--- 0 opens as asked; 1 + n + 32 d opens under setting n, with what differs as d; 255 none of the sixteen; else the refusal, with its number and place
-unfoldable pub reason_told : Diagnosis → Answer
-reason_told AsAsked = Done 0
-reason_told (Other n d) = Done (1 + n + 32 * differ_number d)
-reason_told NoneOfSixteen = Done 255
-reason_told (Refused why place) = AnswerRefused why place
+-- 0 opens as asked; 1 + n + 32 d opens under setting n, with what differs as d; 255 none of the sixteen
+unfoldable pub reason_number : Diagnosis → ℕ
+reason_number AsAsked = 0
+reason_number (Other n d) = 1 + n + 32 * differ_number d
+reason_number NoneOfSixteen = 255
+
+-- the reason's number; else the refusal, with its number and place
+unfoldable pub reason_told : Result Diagnosis Refusal → Answer
+reason_told (Ok reason) = Ok (reason_number reason)
+reason_told (Err found) = Err found

@@ -3,20 +3,15 @@ use mathlib.Core.Path.{◌≡◌, sym, ap, ◌∙◌}
 use mathlib.Core.List.{List, [], ◌∷◌, ◌++◌}
 use Prim.Native.Nat.{ℕ, ◌+◌, ◌-◌, ◌*◌, ◌≤◌}
 use native.Mathlib.Omega.{arith}
-use lib.ListN.{length, take, drop, length-append}
-use borrow.Rule.Slice.PartMut.{put_mid, Post-is}
+use lib.ListN.{length, length-append}
+use borrow.Rule.Slice.PartMut.{put_mid}
 use Rattle.words.specs.Block.{low_bytes}
 use Rattle.words.proofs.Blocks.{length-low_bytes}
 use Rattle.cells.specs.Numbers.{number_at, put_at}
 use Rattle.cells.specs.Cells.{first_sale, first_free, next_of}
 use Rattle.cells.specs.Changes.{new_kind, cell_bytes, filled}
 use Rattle.cells.proofs.Numbers.{length-put}
-use Rattle.cells.proofs.Puts.{put-join}
-
--- bytes written through a part
-put-part : (a e : ℕ) (s new : List ℕ) → a + length new ≡ e → put_mid a (e - a) s new ≡ put_at a new s
-unfolding put_at
-put-part a e s new h = ap (λ (l : List ℕ). take a s ++ (new ++ l)) (Post-is a e s (omega arith) ∙ ap (λ (n : ℕ). drop n s) (sym h))
+use Rattle.cells.proofs.Puts.{put-join, put-part}
 
 module _ (s body : List ℕ) (c first : ℕ) (fits : 64 * c + 64 ≤ length s) (long : length body ≡ 61) where
   -- front and body make a cell

@@ -1,19 +1,21 @@
 // A cell filled with a sale.
-ghost use Rattle.std.specs.Prelude.{◌≡◌, ◌<◌, length};
+ghost use Rattle.std.specs.Prelude.{◌≡◌, ◌<◌};
 ghost use Rattle.cells.specs.Cells.{cells, first_free};
 ghost use Rattle.cells.specs.Changes.{filled};
 ghost use Rattle.sales.specs.Sale.{body_for};
 
 use cells::fields::{index_at, next_of};
+use cells::kinds;
 use cells::writing::{put_front, put_index};
 use sales::{Sale, write_sale};
 
 // The kind of a new sale.
-const NEW_KIND: u8 = 2;
+const NEW_KIND: u8 = kinds::PRICED as u8;
 
 // The first free cell c holds the sale, in front of the others.
-pub fn fill(key: &[u8], s: &mut [u8], c: usize, of: Sale)
-    requires { (length key.now ≡ 32) × ((c ≡ first_free s.old) × (c < cells s.old)) }
+#[tactic(auto, unfolding(cells::specs::Cells::cells))]
+pub fn fill(key: &[u8; 32], s: &mut [u8], c: usize, of: Sale)
+    requires { (c ≡ first_free s.old) × (c < cells s.old) }
     ensures { s.new ≡ filled (body_for key.now of) s.old }
 {
     let first = index_at(s, 0);

@@ -12,7 +12,7 @@ use Rattle.blockplan.specs.Plan.{whole, left, has_left, block_at, xor_over, xor_
 use Rattle.blockplan.specs.Parcel.{parcel_of}
 use Rattle.opp.specs.Opp.{opp_sum, opp_check, opp_tag, seal_at, opp_cipher, opp_mode}
 use Rattle.mro.specs.Mro.{blocks, mro_sum, lengths, mro_tag, mro_cipher, mro_mode}
-use Rattle.modes.specs.Modes.{mode_of}
+use Rattle.modes.specs.Modes.{numbered, mode_over, mode_of}
 use Rattle.known_answers.specs.KnownAnswers.{sealed_old}
 
 -- a map that leaves a list as it is does so any number of times
@@ -79,9 +79,9 @@ unfolding parcel_of opp_mode opp_tag opp_sum opp_check opp_cipher seal_at cipher
 opp-block n = ap₂ (λ (b t : List ℕ). bytes_of b ++ t) (E-zero n 0 0 1) (tag-zero _ (ap (xor_block zero_block) (E-zero n 1 2 1) ∙ xor-zero))
 
 pub zero-tags : (rounds : ℕ) → (sealed_old 1 rounds [] ≡ zeros 32) × (sealed_old 2 rounds [] ≡ zeros 32)
-unfolding sealed_old mode_of
+unfolding sealed_old numbered mode_over mode_of
 zero-tags n = (rw (start-zero n) (opp-empty n), rw (start-zero n) (mro-empty n))
 
 pub zero-parcel : (rounds : ℕ) → sealed_old 1 rounds (zeros 128) ≡ zeros 160
-unfolding sealed_old mode_of
+unfolding sealed_old numbered mode_over mode_of
 zero-parcel n = rw (start-zero n) (opp-block n)

@@ -1,5 +1,5 @@
 -- The bench sheet's cases that are proved, P1 to P11 and the limits of the checks, and rows of the cards, as rows of one table (document 01, "Bench sheet"; document 02, cards 1, 2 and 4 to 9). Assumes nothing.
-use Rattle.std.specs.Prelude.{◌≡◌, Bool, true, false, cond, List, [], ◌∷◌, ◌++◌, map, ℕ, suc, ◌+◌, ◌-◌, ◌*◌, ◌%◌, ◌<◌, eqb, pos, negsuc, length, get_or, set, drop}
+use Rattle.std.specs.Prelude.{◌≡◌, Bool, true, false, cond, List, [], ◌∷◌, ◌++◌, map, ℕ, suc, ◌+◌, ◌-◌, ◌*◌, ◌%◌, ◌<◌, eqb, pos, negsuc, length, get_or, set, drop, Result, Ok, Err}
 use Rattle.std.specs.Int.Bits.{bit_xor}
 use Rattle.words.specs.Sequence.{tab, times, zeros}
 use Rattle.words.specs.Block.{low_bytes, bytes_of, zero_block}
@@ -11,11 +11,8 @@ use Rattle.mem.specs.Mem.{start_block, old_start_block, old_start_of}
 use Rattle.blockplan.specs.Parcel.{parcel_of, same}
 use Rattle.opp.specs.Opp.{padded}
 use Rattle.modes.specs.Modes.{mode_of}
-use Rattle.answers.specs.Answers.{ground_number, code_of, totalled}
-use Rattle.answers.specs.declared.Check.{Check}
-use Rattle.answers.specs.declared.Check.TheVariants.{Clear, Fails}
-use Rattle.answers.specs.declared.Answer.{Answer}
-use Rattle.answers.specs.declared.Answer.TheVariants.{Done, Refused}
+use Rattle.answers.specs.declared.Refusal.{Refusal}
+use Rattle.answers.specs.Answers.{Check, Answer, ground_number, code_of, totalled}
 use Rattle.checks.specs.Checks.{seal_checks, open_checks, convert_checks, run_length, seal_run_checks, open_run_checks}
 use Rattle.sealing.specs.Sealing.{seal_call, open_call, open_old_call}
 use Rattle.converting.specs.Converting.{convert_call}
@@ -126,13 +123,13 @@ sealed_old mode rounds message = parcel_of (mode_of mode rounds (old_start_of ro
 
 -- what checks find: the number and the place, or 0 and 0
 abbrev pub finds : Check → List ℕ
-finds Clear = 0 ∷ 0 ∷ []
-finds (Fails why place) = ground_number why ∷ place ∷ []
+finds (Ok none) = 0 ∷ 0 ∷ []
+finds (Err found) = ground_number found.why ∷ found.place ∷ []
 
 -- what a call answers, the number, 0 where nothing is refused, and the value or the place; then what it leaves in the output
 unfoldable pub answered : Answer × List ℕ → List ℕ
-answered (Done value, out) = 0 ∷ value ∷ out
-answered (Refused why place, out) = ground_number why ∷ place ∷ out
+answered (Ok value, out) = 0 ∷ value ∷ out
+answered (Err found, out) = ground_number found.why ∷ found.place ∷ out
 
 -- opening a parcel of sample_header of 5 bytes from a run, into an output of four bytes
 unfoldable pub opened_by_run : ℕ → List ℕ → List ℕ
@@ -179,7 +176,7 @@ unfoldable pub store_of : ℕ → List ℕ → List ℕ
 store_of kind body = 1 ∷ (zeros 63 ++ (0 ∷ 0 ∷ kind ∷ body))
 
 -- what C gets of a look-up: the one number, and the two variables, which held 8 and 9
-unfoldable pub told : LookUp → List ℕ
+unfoldable pub told : Result LookUp Refusal → List ℕ
 told r = let c = looked_up r 8 9 in c.0 ∷ c.1.0 ∷ c.1.1 ∷ []
 
 -- what C gets of a total: the one number, and its variable, which held 9
@@ -212,8 +209,8 @@ unfoldable pub only : ℕ → Setting → Bool
 only n s = same (setting_numbers s) (setting_numbers (nth sixteen n))
 
 -- what C gets of a diagnosis
-unfoldable pub reason : Diagnosis → ℕ
-reason d = code_of (reason_told d)
+unfoldable pub reason : Result Diagnosis Refusal → ℕ
+reason r = code_of (reason_told r)
 
 -- the bench sheet in its order, P10 and P11 over the section 4 start; then the table's other grounds, and rows of the cards, card by card. Sealed bytes that no document has
 -- are as two implementations outside the proofs, in C and in Rust, compute them
@@ -394,9 +391,9 @@ table =
     ∷ record { got = record_of (paid 1); want = 150 ∷ 0 ∷ 0 ∷ 0 ∷ 4 ∷ 0 ∷ 1 ∷ 148 ∷ 0 ∷ 0 ∷ 0 ∷ 35 ∷ 1 ∷ [] }
     ∷ record { got = detail_fields (detail_in 2 (record_of (paid 1))); want = 2 ∷ 148 ∷ 291 ∷ [] }
     ∷ record { got = detail_fields (detail_in 1 (record_of (paid 1))); want = 1 ∷ 148 ∷ 0 ∷ 0 ∷ 0 ∷ 35 ∷ 1 ∷ [] }
-    ∷ record { got = told (amount_and_price (held_with 70000 (listed 4000000000 291))); want = 2 ∷ 70000 ∷ 4000000000 ∷ [] }  -- a price above the amount, the same, and none
-    ∷ record { got = told (amount_and_price (held_with 70000 (listed 70000 0))); want = 2 ∷ 70000 ∷ 70000 ∷ [] }
-    ∷ record { got = told (amount_and_price (held_with 70000 (clock (nines 6)))); want = 1 ∷ 70000 ∷ 9 ∷ [] }
+    ∷ record { got = told (Ok (amount_and_price (held_with 70000 (listed 4000000000 291)))); want = 2 ∷ 70000 ∷ 4000000000 ∷ [] }  -- a price above the amount, the same, and none
+    ∷ record { got = told (Ok (amount_and_price (held_with 70000 (listed 70000 0)))); want = 2 ∷ 70000 ∷ 70000 ∷ [] }
+    ∷ record { got = told (Ok (amount_and_price (held_with 70000 (clock (nines 6))))); want = 1 ∷ 70000 ∷ 9 ∷ [] }
     ∷ record { got = told (look_up_call sample_key 7 1 (store_of 2 sold_body)); want = 2 ∷ 150 ∷ 148 ∷ [] }  -- whole look-ups: amount and price,
     ∷ record { got = told (look_up_call sample_key 7 1 (store_of 2 zero_body)); want = 2 ∷ 150 ∷ 0 ∷ [] }  -- price 0,
     ∷ record { got = told (look_up_call sample_key 7 1 (store_of 1 zero_body)); want = 1 ∷ 150 ∷ 9 ∷ [] }  -- and no price for the same 61 bytes in a cell of kind 1:
@@ -412,15 +409,15 @@ table =
     ∷ record { got = map (λ s. s.mode) sixteen; want = 1 ∷ 1 ∷ 1 ∷ 1 ∷ 2 ∷ 2 ∷ 2 ∷ 2 ∷ 1 ∷ 1 ∷ 1 ∷ 1 ∷ 2 ∷ 2 ∷ 2 ∷ 2 ∷ [] }  -- OPP before MRO,
     ∷ record { got = map (λ s. s.rounds) sixteen; want = 4 ∷ 6 ∷ 8 ∷ 12 ∷ 4 ∷ 6 ∷ 8 ∷ 12 ∷ 4 ∷ 6 ∷ 8 ∷ 12 ∷ 4 ∷ 6 ∷ 8 ∷ 12 ∷ [] }  -- rounds 4, 6, 8, 12
     ∷ record {
-      got = map (λ n. reason (reason_for (only n) (setting false 1 4))) (tab (λ i. i) 17);
+      got = map (λ n. reason (Ok (reason_for (only n) (setting false 1 4)))) (tab (λ i. i) 17);
       want = 0 ∷ 130 ∷ 131 ∷ 132 ∷ 69 ∷ 198 ∷ 199 ∷ 200 ∷ 41 ∷ 170 ∷ 171 ∷ 172 ∷ 109 ∷ 238 ∷ 239 ∷ 240 ∷ 255 ∷ [];
     }  -- the first setting asked, where each of them alone opens the parcel, and none,
     ∷ record {
-      got = map (λ n. reason (reason_for (only n) (setting true 2 12))) (tab (λ i. i) 17);
+      got = map (λ n. reason (Ok (reason_for (only n) (setting true 2 12)))) (tab (λ i. i) 17);
       want = 225 ∷ 226 ∷ 227 ∷ 100 ∷ 165 ∷ 166 ∷ 167 ∷ 40 ∷ 201 ∷ 202 ∷ 203 ∷ 76 ∷ 141 ∷ 142 ∷ 143 ∷ 0 ∷ 255 ∷ [];
     }  -- and the last
-    ∷ record { got = map (λ n. reason (reason_for (λ s. true) (nth sixteen n))) (tab (λ i. i) 16); want = zeros 16 }  -- where all open it, it opens as asked
-    ∷ record { got = reason (reason_for (λ s. s.old) (setting false 1 4)) ∷ reason (reason_for (λ s. eqb s.mode 2) (setting true 1 6)) ∷ reason (reason_for (λ s. eqb s.rounds 12) (setting true 2 8)) ∷ []; want = 41 ∷ 229 ∷ 228 ∷ [] }  -- where several do, the first of them is named
+    ∷ record { got = map (λ n. reason (Ok (reason_for (λ s. true) (nth sixteen n)))) (tab (λ i. i) 16); want = zeros 16 }  -- where all open it, it opens as asked
+    ∷ record { got = reason (Ok (reason_for (λ s. s.old) (setting false 1 4))) ∷ reason (Ok (reason_for (λ s. eqb s.mode 2) (setting true 1 6))) ∷ reason (Ok (reason_for (λ s. eqb s.rounds 12) (setting true 2 8))) ∷ []; want = 41 ∷ 229 ∷ 228 ∷ [] }  -- where several do, the first of them is named
     ∷ record { got = map (λ s. cond (opens_under (zeros 32) (zeros 16) [] new_opp s) 1 0) (setting false 1 4 ∷ setting true 1 4 ∷ setting false 2 4 ∷ []); want = 1 ∷ 0 ∷ 0 ∷ [] }  -- the empty message's parcel opens under its own setting, and not under the other start or mode
     ∷ record { got = reason (diagnose_call true 0 5 (zeros 31) (zeros 15) (zeros 4097) []) ∷ reason (diagnose_call true 1 5 (zeros 31) (zeros 15) (zeros 4097) []) ∷ reason (diagnose_call true 1 4 (zeros 31) (zeros 15) (zeros 4097) []) ∷ []; want = code 1 0 ∷ code 2 0 ∷ code 3 0 ∷ [] }  -- refused: 1, 2, 3,
     ∷ record { got = reason (diagnose_call true 1 4 (zeros 32) (zeros 15) (zeros 4097) []) ∷ reason (diagnose_call true 1 4 (zeros 32) (zeros 16) (zeros 4097) []) ∷ reason (diagnose_call true 1 4 (zeros 32) (zeros 16) [] (zeros 31)) ∷ []; want = code 4 0 ∷ code 5 0 ∷ code 8 0 ∷ [] }  -- 4, 5, 8

@@ -103,3 +103,7 @@ all_same w = record { long = refl; each = λ m h. refl }
 -- one step after another
 pub all_then : {f g : List ℕ → List ℕ} {w u v : List ℕ} → AllLanes f w u → AllLanes g u v → AllLanes (λ s. g (f s)) w v
 all_then {f} {g} a b = record { long = b.long ∙ a.long; each = λ m h. b.each m h ∙ ap g (a.each m h) }
+
+-- the same map in other words
+pub all_is : {f g : List ℕ → List ℕ} {w v : List ℕ} → ((s : List ℕ) → g s ≡ f s) → AllLanes f w v → AllLanes g w v
+all_is {w = w} e a = record { long = a.long; each = λ m h. a.each m h ∙ sym (e (lane w m)) }

@@ -1,57 +1,32 @@
-// A round and a round undone, in four lanes, by the permutation's own table of groups.
-ghost use Rattle.std.specs.Prelude.{◌≡◌, [], ◌<◌, length, get_or};
-ghost use Rattle.permutation.specs.Permutation.{groups, g_at, back_g_at, round, back_round};
+// A round in four lanes, in either way, by the permutation's own table of groups.
+ghost use Rattle.std.specs.Prelude.{[], ◌<◌, slice_index_or};
+ghost use Rattle.permutation.specs.Permutation.{groups, step_at};
 ghost use Rattle.lanes.specs.Lanes.{AllLanes};
 
-use crate::g::{back_g4, g4};
+use crate::g::g4;
 use permutation::round::GROUPS;
+use permutation::way::Way;
 
-// G over group k.
-fn step4(w: &mut [u64; 64], k: usize)
-    requires w_len { length w.old ≡ 64 }
-    requires k_bound { k < 8 }
-    ensures { AllLanes (g_at (get_or groups k [])) w.old w.new }
+// The step over the group that a round of this way takes as its k-th.
+#[tactic(auto, unfolding(permutation::specs::Permutation::groups, permutation::specs::Permutation::columns, permutation::specs::Permutation::diagonals))]
+fn step4<W: Way>(w: &mut [u64; 64], k: usize)
+    requires { k < 8 }
+    ensures { AllLanes (step_at W.quad (slice_index_or groups (W.group k) [])) w.old w.new }
 {
-    let q = GROUPS[k];
-    g4(w, q[0], q[1], q[2], q[3]);
+    g4::<W>(w, GROUPS[W::group(k)]);
 }
 
-// G over group k, undone.
-fn back_step4(w: &mut [u64; 64], k: usize)
-    requires w_len { length w.old ≡ 64 }
-    requires k_bound { k < 8 }
-    ensures { AllLanes (back_g_at (get_or groups k [])) w.old w.new }
+// A round: at Forward the table read forward, at Back read backward.
+// Kept: eight calls, since a loop over the table is not unrolled, and takes a third more time and up.
+pub fn round4<W: Way>(w: &mut [u64; 64])
+    ensures { AllLanes W.round w.old w.new }
 {
-    let q = GROUPS[k];
-    back_g4(w, q[0], q[1], q[2], q[3]);
-}
-
-// A round: the table read forward.
-pub fn round4(w: &mut [u64; 64])
-    requires { length w.old ≡ 64 }
-    ensures { AllLanes round w.old w.new }
-{
-    step4(w, 0);
-    step4(w, 1);
-    step4(w, 2);
-    step4(w, 3);
-    step4(w, 4);
-    step4(w, 5);
-    step4(w, 6);
-    step4(w, 7);
-}
-
-// A round undone: the table read backward.
-pub fn back_round4(w: &mut [u64; 64])
-    requires { length w.old ≡ 64 }
-    ensures { AllLanes back_round w.old w.new }
-{
-    back_step4(w, 7);
-    back_step4(w, 6);
-    back_step4(w, 5);
-    back_step4(w, 4);
-    back_step4(w, 3);
-    back_step4(w, 2);
-    back_step4(w, 1);
-    back_step4(w, 0);
+    step4::<W>(w, 0);
+    step4::<W>(w, 1);
+    step4::<W>(w, 2);
+    step4::<W>(w, 3);
+    step4::<W>(w, 4);
+    step4::<W>(w, 5);
+    step4::<W>(w, 6);
+    step4::<W>(w, 7);
 }

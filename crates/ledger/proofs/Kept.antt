@@ -5,11 +5,8 @@ use mathlib.Core.Path.{◌≡◌, refl, ap, ◌∙◌}
 use Prim.Native.Nat.{ℕ, ◌+◌}
 use native.Mathlib.Omega.{arith}
 use Rattle.words.specs.Block.{Bytes}
-use Rattle.answers.specs.Answers.{checked}
-use Rattle.answers.specs.declared.Check.{Check}
-use Rattle.answers.specs.declared.Check.TheVariants.{Clear, Fails}
-use Rattle.answers.specs.declared.Answer.{Answer}
-use Rattle.answers.specs.declared.Answer.TheVariants.{Done, Refused}
+use Rattle.std.specs.Prelude.{Ok, Err}
+use Rattle.answers.specs.Answers.{Check, clear, Answer, checked}
 use Rattle.cells.specs.Cells.{cells, first_free, length_fits, present, cell_named, cell_before}
 use Rattle.cells.specs.Changes.{fresh, filled, emptied}
 use Rattle.sales.specs.declared.Sale.{Sale}
@@ -73,17 +70,17 @@ module _ (key : List ℕ) where
   -- ---- one call, and a history
 
   -- a refused call leaves both as they are
-  by-checks : (call : Call) (c : Check) (v : ℕ) (s t : List ℕ) (b : Book) → Kept key s b → (c ≡ Clear → Kept key t (entered call (Done v) b))
-      → Kept key (checked c s (Done v, t)).1 (entered call (checked c s (Done v, t)).0 b)
+  by-checks : (call : Call) (c : Check) (v : ℕ) (s t : List ℕ) (b : Book) → Kept key s b → (c ≡ clear → Kept key t (entered call (Ok v) b))
+      → Kept key (checked c s (Ok v, t)).1 (entered call (checked c s (Ok v, t)).0 b)
   unfolding checked entered
-  by-checks call Clear v s t b i h = h refl
-  by-checks call (Fails g p) v s t b i h = i
+  by-checks call (Ok none) v s t b i h = h refl
+  by-checks call (Err found) v s t b i h = i
 
   -- a call that the ledger passes over leaves both, whatever it answers
-  by-reading : (call : Call) → ((v : ℕ) (b : Book) → entered call (Done v) b ≡ b) → (a : Answer) (s : List ℕ) (b : Book) → Kept key s b → Kept key s (entered call a b)
+  by-reading : (call : Call) → ((v : ℕ) (b : Book) → entered call (Ok v) b ≡ b) → (a : Answer) (s : List ℕ) (b : Book) → Kept key s b → Kept key s (entered call a b)
   unfolding entered
-  by-reading call e (Done v) s b i = rw (e v b) i
-  by-reading call e (Refused g p) s b i = i
+  by-reading call e (Ok v) s b i = rw (e v b) i
+  by-reading call e (Err found) s b i = i
 
   module _ (k : Bytes key) where
     step : (call : Call) (calls : List Call) → AllFit (call ∷ calls) → (s : List ℕ) (b : Book) → Kept key s b

@@ -9,11 +9,9 @@ use lib.Dec.{eqb, ltb}
 use lib.ListN.{length, length-map}
 use borrow.Author.Tests.{eq-eqb, ne_eqb, eqb-true, eqb-false, lt-ltb, le-ltb, not-false}
 use Rattle.words.specs.Block.{Bytes}
-use Rattle.answers.specs.Answers.{line, line_at, checked, refused_or, judged}
+use Rattle.std.specs.Prelude.{Ok}
+use Rattle.answers.specs.Answers.{Check, clear, line, line_at, checked, judged}
 use Rattle.answers.specs.declared.Ground.TheVariants.{KeyLength, SaleNumbers, TagDiffers, StoreFull}
-use Rattle.answers.specs.declared.Check.{Check}
-use Rattle.answers.specs.declared.Check.TheVariants.{Clear}
-use Rattle.answers.specs.declared.Answer.TheVariants.{Done}
 use Rattle.answers.proofs.Values.{line_clear, line_at-clear, judged-done}
 use Rattle.cells.specs.Chains.{count, some, first}
 use Rattle.cells.specs.Cells.{cells, first_free, kind_of, body_of, sales, free, length_fits, formed, named, present, cell_named, cell_before}
@@ -30,8 +28,7 @@ use Rattle.sales.specs.Sale.{Detail, StoredSale, Fits, body_for, stored_as, open
 use Rattle.sales.specs.Sale.Detail.{clock, listed}
 use Rattle.sales.proofs.Bodies.{body-long, body-opens, body-sale}
 use Rattle.entries.specs.Entries.{opens_at, shut_at, sale_at, sales_in, cash}
-use Rattle.store.specs.declared.LookUp.TheVariants.{Refused as LookUpRefused}
-use Rattle.store.specs.Store.{form_checks, key_checks, format_checks, take_checks, cancel_checks, total_checks, read_checks, take_call, cancel_call, total_call, read_part, priced_by, amount_and_price, look_up_call}
+use Rattle.store.specs.Store.{form_checks, key_checks, format_checks, take_checks, cancel_checks, total_checks, read_checks, take_call, cancel_call, total_call, read_part, handed, priced_by, amount_and_price, look_up_call}
 use Rattle.ledger.specs.Book.{is_named, found, without, coins, amount_back, both_of, both_told, cell_taken}
 use Rattle.ledger.specs.Conserved.{held_in}
 use Rattle.ledger.proofs.Sales.{map-ext, without-map, found_map, cash-coins}
@@ -43,31 +40,31 @@ keys-next : (key s : List ℕ) (next : Check) → length key ≡ 32 → formed s
 unfolding key_checks form_checks line line_at
 keys-next key s next k f = rw (eq-eqb (length key) 32 k, formed-check s next f)
 
-keys-clear : (key s : List ℕ) (next : Check) → key_checks key s next ≡ Clear → (formed s ≡ true) × (next ≡ Clear)
+keys-clear : (key s : List ℕ) (next : Check) → key_checks key s next ≡ clear → (formed s ≡ true) × (next ≡ clear)
 unfolding key_checks form_checks
 keys-clear key s next e =
     let a = line_clear _ KeyLength _ e in
     check-formed s next a.1
 
-keys-long : (key s : List ℕ) (next : Check) → key_checks key s next ≡ Clear → length key ≡ 32
+keys-long : (key s : List ℕ) (next : Check) → key_checks key s next ≡ clear → length key ≡ 32
 unfolding key_checks
 keys-long key s next e = eqb-true (length key) 32 (not-false _ (line_clear (not (eqb (length key) 32)) KeyLength _ e).0)
 
 -- format's checks are clear: the length is as said
-pub format-clear : (s : List ℕ) → format_checks s ≡ Clear → length_fits s ≡ true
+pub format-clear : (s : List ℕ) → format_checks s ≡ clear → length_fits s ≡ true
 unfolding format_checks
 format-clear s e = length-clear s e
 
 -- take's checks are clear: some cell is free
-pub take-clear : (key : List ℕ) (x : Sale) (s : List ℕ) → take_checks key x s ≡ Clear → first_free s ≡ 0 → ⊥
+pub take-clear : (key : List ℕ) (x : Sale) (s : List ℕ) → take_checks key x s ≡ clear → first_free s ≡ 0 → ⊥
 unfolding take_checks
 take-clear key x s e =
     let a = keys-clear key s _ e in
     let b = line_clear _ SaleNumbers _ a.1 in
-    eqb-false (first_free s) 0 (line_clear (eqb (first_free s) 0) StoreFull Clear b.1).0
+    eqb-false (first_free s) 0 (line_clear (eqb (first_free s) 0) StoreFull clear b.1).0
 
 -- cancel's checks are clear: the sale is there
-pub cancel-clear : (key : List ℕ) (machine sale : ℕ) (s : List ℕ) → cancel_checks key machine sale s ≡ Clear → present machine sale s ≡ true
+pub cancel-clear : (key : List ℕ) (machine sale : ℕ) (s : List ℕ) → cancel_checks key machine sale s ≡ clear → present machine sale s ≡ true
 unfolding cancel_checks
 cancel-clear key machine sale s e =
     let a = keys-clear key s _ e in
@@ -99,19 +96,19 @@ module _ (key : List ℕ) where
   open-shut s c e = not-false (opens_at key s c) e
 
   -- total gives the coin amounts of the sales of a sound store
-  pub total-sound : (s : List ℕ) → length key ≡ 32 → Sound key s → total_call key s ≡ Done (coins (sales_in key s))
-  unfolding total_call total_checks line_at judged refused_or
+  pub total-sound : (s : List ℕ) → length key ≡ 32 → Sound key s → total_call key s ≡ Ok (coins (sales_in key s))
+  unfolding total_call total_checks line_at judged
   total-sound s k h =
-      let next = line_at (some (shut_at key s) (sales s)) TagDiffers (first (shut_at key s) (sales s)) Clear in
+      let next = line_at (some (shut_at key s) (sales s)) TagDiffers (first (shut_at key s) (sales s)) clear in
       rw (keys-next key s next k h.form, in-none (shut_at key s) (sales s) (λ c i. shut_open s c (h.all-open c i)), cash-coins (sales_in key s))
 
   -- and accepts no other store, and no key of another length
-  pub total-accepts : (s : List ℕ) (first : ℕ) → total_call key s ≡ Done first → Sound key s × (coins (sales_in key s) ≡ first) × (length key ≡ 32)
+  pub total-accepts : (s : List ℕ) (first : ℕ) → total_call key s ≡ Ok first → Sound key s × (coins (sales_in key s) ≡ first) × (length key ≡ 32)
   unfolding total_call total_checks
   total-accepts s first e =
       let j = judged-done _ (cash (sales_in key s)) first e in
       let a = keys-clear key s _ j.0 in
-      let n = (line_at-clear (some (shut_at key s) (sales s)) TagDiffers _ Clear a.1).0 in
+      let n = (line_at-clear (some (shut_at key s) (sales s)) TagDiffers _ clear a.1).0 in
       (record { form = a.0; all-open = λ c i. open-shut s c (none_in (shut_at key s) (sales s) n c i) }, sym (cash-coins (sales_in key s)) ∙ j.1, keys-long key s _ j.0)
 
   -- ---- format
@@ -202,8 +199,8 @@ module _ (key : List ℕ) where
 
     -- what cancel answers once key and form are right
     answers_by : (t : Bool) → present machine sale s ≡ t → (r : List ℕ)
-        → (checked (line (not (present machine sale s)) SaleNumbers (line_at (shut_at key s (cell_named machine sale s)) TagDiffers (cell_named machine sale s) Clear)) s
-        (Done (sale_at key s (cell_named machine sale s)).amount, r)).0
+        → (checked (line (not (present machine sale s)) SaleNumbers (line_at (shut_at key s (cell_named machine sale s)) TagDiffers (cell_named machine sale s) clear)) s
+        (Ok (sale_at key s (cell_named machine sale s)).amount, r)).0
         ≡ amount_back (cond t (sale_at key s (cell_named machine sale s) ∷ []) [])
     unfolding line line_at checked amount_back
     answers_by true e r = rw (e, shut_open s (cell_named machine sale s) (h.all-open (cell_named machine sale s) (named_in e))) refl
@@ -218,16 +215,16 @@ module _ (key : List ℕ) where
     unfolding cancel_call cancel_checks
     cancel-answers k =
         let c = cell_named machine sale s in
-        let next = line (not (present machine sale s)) SaleNumbers (line_at (shut_at key s c) TagDiffers c Clear) in
+        let next = line (not (present machine sale s)) SaleNumbers (line_at (shut_at key s c) TagDiffers c clear) in
         rw (keys-next key s next k h.form, sale-found) (answers_by (present machine sale s) refl _)
 
     -- what a look-up answers once key and form are right
     looks-by : (t : Bool) → present machine sale s ≡ t
-        → refused_or LookUpRefused (line (not (present machine sale s)) SaleNumbers (line_at (shut_at key s (cell_named machine sale s)) TagDiffers (cell_named machine sale s) Clear))
-        (amount_and_price (sale_at key s (cell_named machine sale s)))
+        → judged (line (not (present machine sale s)) SaleNumbers (line_at (shut_at key s (cell_named machine sale s)) TagDiffers (cell_named machine sale s) clear))
+        (Ok (amount_and_price (sale_at key s (cell_named machine sale s))))
         ≡ both_told (cond t (sale_at key s (cell_named machine sale s) ∷ []) [])
-    unfolding line line_at refused_or both_told
-    looks-by true e = rw (e, shut_open s (cell_named machine sale s) (h.all-open (cell_named machine sale s) (named_in e))) (both-same (sale_at key s (cell_named machine sale s)))
+    unfolding line line_at judged both_told
+    looks-by true e = rw (e, shut_open s (cell_named machine sale s) (h.all-open (cell_named machine sale s) (named_in e))) (ap Ok (both-same (sale_at key s (cell_named machine sale s))))
     looks-by false e = rw e
 
     -- a look-up answers amount and price of the sale that stands first under these numbers, or 16
@@ -235,13 +232,13 @@ module _ (key : List ℕ) where
     unfolding look_up_call cancel_checks
     look-up-answers k =
         let c = cell_named machine sale s in
-        let next = line (not (present machine sale s)) SaleNumbers (line_at (shut_at key s c) TagDiffers c Clear) in
+        let next = line (not (present machine sale s)) SaleNumbers (line_at (shut_at key s c) TagDiffers c clear) in
         rw (keys-next key s next k h.form, sale-found) (looks-by (present machine sale s) refl)
 
     -- the part that read hands out once the form is right
     part-holds : (t : Bool) → present machine sale s ≡ t
-        → held_in key (kind_of s (cell_named machine sale s)) (refused_or (λ why place. []) (line (not t) SaleNumbers Clear) (body_of s (cell_named machine sale s))) ≡ cond t (sale_at key s (cell_named machine sale s) ∷ []) []
-    unfolding line line_at refused_or held_in sale_at
+        → held_in key (kind_of s (cell_named machine sale s)) (handed (line (not t) SaleNumbers clear) (body_of s (cell_named machine sale s))) ≡ cond t (sale_at key s (cell_named machine sale s) ∷ []) []
+    unfolding line line_at handed held_in sale_at
     part-holds true e =
         let c = cell_named machine sale s in
         held-long (kind_of s c) (body_of s c) (body-length s c ((form_of s h.form).sold-here c (named_in e)))
@@ -265,7 +262,7 @@ module _ (key : List ℕ) where
           rw (ne_eqb (first_free s) 0 (λ z. omega (arith, f.spare.0, f.spare.1)), lt-ltb (length (sales s) + 1) (cells s) (omega (arith, size_of s (sales s) (c ∷ fs) f)))
 
   taken-by : (t left : Bool) (y : StoredSale) (c : ℕ) (s r : List ℕ)
-      → (checked (line t SaleNumbers (line (not left) StoreFull Clear)) s (Done c, r)).0 ≡ cell_taken (cond t (y ∷ []) []) left c
+      → (checked (line t SaleNumbers (line (not left) StoreFull clear)) s (Ok c, r)).0 ≡ cell_taken (cond t (y ∷ []) []) left c
   unfolding line line_at checked cell_taken
   taken-by true left y c s r = refl
   taken-by false true y c s r = refl
@@ -276,5 +273,5 @@ module _ (key : List ℕ) where
       → (take_call key x s).0 ≡ cell_taken (found x.machine x.sale (sales_in key s)) (ltb (length (sales_in key s) + 1) (cells s)) (first_free s)
   unfolding take_call take_checks
   take-answers x s h k =
-      let next = line (present x.machine x.sale s) SaleNumbers (line (eqb (first_free s) 0) StoreFull Clear) in
+      let next = line (present x.machine x.sale s) SaleNumbers (line (eqb (first_free s) 0) StoreFull clear) in
       rw (keys-next key s next k h.form, sale-found x.machine x.sale s h, cells_left s h) (taken-by (present x.machine x.sale s) _ _ (first_free s) s _)

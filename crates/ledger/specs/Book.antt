@@ -1,13 +1,13 @@
 -- The ledger of a store: what a history of calls says of it, by the calls' own arguments and by which were refused (document 02, cards 1 and 8). Assumes nothing.
-use Rattle.std.specs.Prelude.{Bool, true, false, cond, ◌&&◌, List, [], ◌∷◌, ◌++◌, ℕ, ◌+◌, eqb}
+use Rattle.std.specs.Prelude.{Bool, true, false, cond, ◌&&◌, List, [], ◌∷◌, ◌++◌, ℕ, ◌+◌, eqb, Result, Ok, Err, Some, None}
 use Rattle.answers.specs.declared.Ground.TheVariants.{StoreFull, SaleNumbers}
-use Rattle.answers.specs.declared.Answer.{Answer}
-use Rattle.answers.specs.declared.Answer.TheVariants.{Done, Refused}
+use Rattle.answers.specs.declared.Refusal.{Refusal}
+use Rattle.answers.specs.Refusals.{refusal}
+use Rattle.answers.specs.Answers.{Answer}
 use Rattle.sales.specs.declared.Sale.{Sale}
 use Rattle.sales.specs.Sale.{Detail, StoredSale, stored_as, Fits}
 use Rattle.sales.specs.Sale.Detail.{clock, listed}
 use Rattle.store.specs.declared.LookUp.{LookUp}
-use Rattle.store.specs.declared.LookUp.TheVariants.{Priced, Unpriced, Refused as LookUpRefused}
 
 -- ---- sales
 
@@ -89,31 +89,31 @@ book_cancel machine sale b = record {
 
 -- the ledger after one call that was answered so: a refused call counts for nothing, format begins at 0 with no sale; total, read and look-up leave it
 unfoldable pub entered : Call → Answer → Book → Book
-entered call (Refused why place) b = b
-entered format (Done value) b = new_book 0 []
-entered (take x) (Done value) b = book_take x b
-entered (cancel machine sale) (Done value) b = book_cancel machine sale b
-entered total (Done value) b = b
-entered (read machine sale) (Done value) b = b
-entered (look_up machine sale) (Done value) b = b
+entered call (Err found) b = b
+entered format (Ok value) b = new_book 0 []
+entered (take x) (Ok value) b = book_take x b
+entered (cancel machine sale) (Ok value) b = book_cancel machine sale b
+entered total (Ok value) b = b
+entered (read machine sale) (Ok value) b = b
+entered (look_up machine sale) (Ok value) b = b
 
 -- what cancel has to answer, by the sale that it removes: the amount of this sale, never its price; 16 where there is none
 unfoldable pub amount_back : List StoredSale → Answer
-amount_back [] = Refused SaleNumbers 0
-amount_back (x ∷ l) = Done x.amount
+amount_back [] = Err (refusal SaleNumbers 0)
+amount_back (x ∷ l) = Ok x.amount
 
 -- what a look-up has to answer, by the amount and the last field of the sale that stands under its numbers (card 8: "gives both, or for kind 1 the amount and a mark for no price")
 unfoldable pub both_of : ℕ → Detail → LookUp
-both_of amount (listed price day) = Priced amount price
-both_of amount (clock bytes) = Unpriced amount
+both_of amount (listed price day) = record { amount = amount; price = Some price }
+both_of amount (clock bytes) = record { amount = amount; price = None }
 
 -- 16 where there is no such sale ("16 machine and sale number [..] absent")
-unfoldable pub both_told : List StoredSale → LookUp
-both_told [] = LookUpRefused SaleNumbers 0
-both_told (x ∷ l) = both_of x.amount x.detail
+unfoldable pub both_told : List StoredSale → Result LookUp Refusal
+both_told [] = Err (refusal SaleNumbers 0)
+both_told (x ∷ l) = Ok (both_of x.amount x.detail)
 
 -- what take has to answer: 16 where a sale stands under its numbers, then 15 where no cell is left, else the cell given
 unfoldable pub cell_taken : List StoredSale → Bool → ℕ → Answer
-cell_taken (x ∷ l) left cell = Refused SaleNumbers 0
-cell_taken [] false cell = Refused StoreFull 0
-cell_taken [] true cell = Done cell
+cell_taken (x ∷ l) left cell = Err (refusal SaleNumbers 0)
+cell_taken [] false cell = Err (refusal StoreFull 0)
+cell_taken [] true cell = Ok cell

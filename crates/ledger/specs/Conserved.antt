@@ -1,10 +1,10 @@
 -- The conserved total, over whole histories of calls (document 02, card 8: "from any store that total accepts: until the next format, with that key and these calls only, total gives the first figure plus coin amounts taken less coin
 -- amounts cancelled, of both kinds"; card 1: "From the last format on, with one key and these calls only, the cash total equals coin amounts taken less coin amounts cancelled"). Assumes nothing.
-use Rattle.std.specs.Prelude.{true, List, [], ◌∷◌, ◌≡◌, ℕ, ◌+◌, ◌-◌, ◌≤◌, ltb, length}
+use Rattle.std.specs.Prelude.{true, List, [], ◌∷◌, ◌≡◌, ℕ, ◌+◌, ◌-◌, ◌≤◌, ltb, length, Ok, Err}
 use Rattle.words.specs.Block.{Bytes}
 use Rattle.answers.specs.declared.Ground.{Ground}
-use Rattle.answers.specs.declared.Answer.{Answer}
-use Rattle.answers.specs.declared.Answer.TheVariants.{Done, Refused}
+use Rattle.answers.specs.Refusals.{refusal}
+use Rattle.answers.specs.Answers.{Answer}
 use Rattle.cells.specs.Chains.{all}
 use Rattle.cells.specs.Cells.{cells, first_free, kind_of, sales, length_fits, cell_named}
 use Rattle.sales.specs.declared.Sale.{Sale}
@@ -46,11 +46,11 @@ module _ (key : List ℕ) where
     -- and each opens
     pub all-open : all (opens_at key s) (sales s) ≡ true
     -- total is not refused, and gives the first figure plus the coin amounts taken, less the coin amounts cancelled
-    pub figure : total_call key s ≡ Done ((b.first + coins b.taken) - coins b.cancelled)
+    pub figure : total_call key s ≡ Ok ((b.first + coins b.taken) - coins b.cancelled)
     -- of which there are no more
     pub most : coins b.cancelled ≤ b.first + coins b.taken
     -- that is the coin amounts of the sales that stand: nothing else in the store counts
-    pub standing-figure : total_call key s ≡ Done (coins b.standing)
+    pub standing-figure : total_call key s ≡ Ok (coins b.standing)
     -- cancel, of any numbers, answers the amount of the sale that it removes from the ledger, of either kind
     pub gives_back : (machine sale : ℕ) → (cancel_call key machine sale s).0 ≡ amount_back (found machine sale b.standing)
     -- take answers the first free cell, and is refused only where its numbers stand or where sales fill all cells but cell 0
@@ -64,9 +64,9 @@ module _ (key : List ℕ) where
 pub record Conserved : Type 0 where
   -- from any store that total accepts: the ledger begins with its figure and the sales that open there
   pub from-accepted : (key s : List ℕ) (first : ℕ) (calls : List Call) → Bytes key → AllFit calls
-      → total_call key s ≡ Done first → Agrees key (store_after key calls s) (kept key calls s (new_book first (sales_in key s)))
+      → total_call key s ≡ Ok first → Agrees key (store_after key calls s) (kept key calls s (new_book first (sales_in key s)))
   -- format is refused for no store of a right length, whatever it held, and answers 0
-  pub formats : (s : List ℕ) → length_fits s ≡ true → (format_call s).0 ≡ Done 0
+  pub formats : (s : List ℕ) → length_fits s ≡ true → (format_call s).0 ≡ Ok 0
   -- from such a format on: the ledger begins at 0 with no sale
   pub from-format : (key s : List ℕ) (calls : List Call) → length key ≡ 32 → Bytes key → AllFit calls → length_fits s ≡ true
       → Agrees key (store_after key calls (format_call s).1) (kept key calls (format_call s).1 (new_book 0 []))
@@ -74,10 +74,10 @@ pub record Conserved : Type 0 where
   -- a later format among the calls begins the ledger anew
   pub since-format : (key s : List ℕ) (calls : List Call) → length key ≡ 32 → Bytes key → AllFit calls → length_fits s ≡ true
       → let b = kept key calls (format_call s).1 (new_book 0 []) in
-      (total_call key (store_after key calls (format_call s).1) ≡ Done (coins b.taken - coins b.cancelled)) × (coins b.cancelled ≤ coins b.taken)
+      (total_call key (store_after key calls (format_call s).1) ≡ Ok (coins b.taken - coins b.cancelled)) × (coins b.cancelled ≤ coins b.taken)
   -- "from any store that total accepts: until the next format, [..] total gives the first figure plus coin amounts taken less coin amounts cancelled, of both kinds"
   pub until-format : (key s : List ℕ) (first : ℕ) (calls : List Call) → Bytes key → AllFit calls → NoFormat calls
-      → total_call key s ≡ Done first → let b = kept key calls s (new_book first (sales_in key s)) in
-      (total_call key (store_after key calls s) ≡ Done ((first + coins b.taken) - coins b.cancelled)) × (coins b.cancelled ≤ first + coins b.taken)
+      → total_call key s ≡ Ok first → let b = kept key calls s (new_book first (sales_in key s)) in
+      (total_call key (store_after key calls s) ≡ Ok ((first + coins b.taken) - coins b.cancelled)) × (coins b.cancelled ≤ first + coins b.taken)
   -- a refused call "changes nothing": for every key and store and on every ground, no byte of the store
-  pub refused-unchanged : (key s : List ℕ) (call : Call) (why : Ground) (place : ℕ) → (called key call s).0 ≡ Refused why place → (called key call s).1 ≡ s
+  pub refused-unchanged : (key s : List ℕ) (call : Call) (why : Ground) (place : ℕ) → (called key call s).0 ≡ Err (refusal why place) → (called key call s).1 ≡ s

@@ -3,70 +3,36 @@
 
 #![tactic(auto)]
 
-use maskwalk_text::{HELD, Scan, TEXT, feed, finish, first, is_open};
-use std::io::Read;
+use maskwalk_text::{Reader, TEXT};
+use std::io;
+use std::io::{ErrorKind, Read};
 
 // The most bytes that one read asks for.
 const PART: usize = 65536;
 
-// What one read came to.
-#[derive(Clone, Copy)]
-enum Turn {
-    // There may be more.
-    More(Scan),
-    // The input has ended, or what is left of it changes nothing.
-    Done(Scan),
-    // The input cannot be read.
-    Failed,
-}
-
-// Reads once, and feeds what came to the scan.
-fn read_some<R: Read>(input: &mut R, s: Scan, held: &mut [u8; HELD]) -> Turn {
+// Reads until the input ends, or what is left of it changes nothing. A proved loop has to end, and
+// nothing says that the input does. So the loop counts its turns; each reads a byte or more, and no
+// input has 2^64 of them.
+fn read_all<R: Read>(input: &mut R, reader: &mut Reader) -> io::Result<()> {
     let mut part = [0u8; PART];
-    let Ok(n) = input.read(&mut part) else {
-        return Turn::Failed;
-    };
-    if n == 0 {
-        return Turn::Done(s);
-    }
-    let next = feed(s, &part[..n], held);
-    if is_open(next) {
-        Turn::More(next)
-    } else {
-        Turn::Done(next)
-    }
-}
-
-// A proved loop has to end, and nothing says that the input does. So the loop counts its turns;
-// each reads a byte or more, and no input has 2^64 of them.
-fn read_all<R: Read>(input: &mut R, held: &mut [u8; HELD]) -> Turn {
-    let mut s = first();
     for _ in 0..u64::MAX {
-        let turn = read_some(input, s, held);
-        match turn {
-            Turn::More(next) => {
-                s = next;
-            }
-            Turn::Done(end) => {
-                return Turn::Done(end);
-            }
-            Turn::Failed => {
-                return Turn::Failed;
-            }
+        let n = input.read(&mut part)?;
+        reader.feed(&part[..n]);
+        if n == 0 || !reader.is_open() {
+            return Ok(());
         }
     }
-    Turn::Failed
+    Err(io::Error::from(ErrorKind::Other))
 }
 
 // Prints the text. Where the input cannot be read to its end, nothing goes to standard output.
 fn main(rt: HostRuntime) {
-    let mut held = [0u8; HELD];
-    let turn = read_all(&mut rt.stdin(), &mut held);
-    let Turn::Done(s) = turn else {
+    let mut reader = Reader::new();
+    if read_all(&mut rt.stdin(), &mut reader).is_err() {
         let _ = rt.eprintln("maskwalk: the input cannot be read");
         return;
-    };
+    }
     let mut out = [0u8; TEXT];
-    let n = finish(s, &held, &mut out);
+    let n = reader.finish(&mut out);
     let _ = rt.stdout().write_all(&out[..n]);
 }

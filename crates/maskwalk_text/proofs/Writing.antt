@@ -1,35 +1,25 @@
 -- Laws of text that is written to a list in place, cited by the loops. Assumes nothing.
-use mathlib.Core.Path.{◌≡◌, refl, ap, ap₂, ◌∙◌}
+use mathlib.Core.Path.{◌≡◌, refl, ap, ◌∙◌}
 use mathlib.Core.List.{List, [], ◌∷◌, ◌++◌, append_assoc}
 use Prim.Native.Nat.{ℕ, zero, suc, ◌+◌, ◌/◌, ◌%◌, ◌≤◌, ◌<◌}
 use native.Mathlib.Numerals.{add-one}
 use native.Mathlib.Omega.{arith}
-use lib.ListN.{length, get_or, take, drop, set, length-append}
-use lib.Seq.{drop-cons, take-suc, set_at, append_snoc, get_or-set_same, drop-set-lt, lt-length-set, length-take-le}
+use lib.ListN.{length, get_or, drop, set, length-append}
+use lib.Seq.{drop-cons, set_at, append_snoc}
+use Rattle.std.proofs.lemmas.List.{drop-set}
 use Rattle.words.proofs.Lists.{length-cat}
 use Rattle.maskwalk_text.specs.Text.{digit, digits, line, lines, written}
 
--- from the place of a store on
-pub drop-set : (i v : ℕ) (out : List ℕ) → i < length out → drop i (set out i v) ≡ v ∷ drop (suc i) out
-drop-set i v out h =
-    drop-cons (set out i v) i 0 (lt-length-set out i v h) ∙ ap₂ (λ (x : ℕ) (l : List ℕ). x ∷ l) (get_or-set_same out i v 0 h) (drop-set-lt (suc i) out i v (omega arith))
-
 -- one digit more in front of those that are in
-pub digit-in : (base rest i j v : ℕ) (out : List ℕ) → i ≡ suc j → j < length out → v ≡ digit (rest % base)
+pub digit-in : (base rest i j v : ℕ) (out : List ℕ) → i ≡ j + 1 → j < length out → v ≡ digit (rest % base)
     → digits base i rest ++ drop i out ≡ digits base j (rest / base) ++ drop j (set out j v)
 unfolding digits
-digit-in base rest i j v out e h q = rw (e, drop-set j v out h, q, append_assoc)
+digit-in base rest i j v out e h q = rw (e, drop-set out j v h, add-one, q, append_assoc)
 
 -- a byte after a front
 pub put-after : (p old xs : List ℕ) (n v : ℕ) → length p ≡ n → n < length old → xs ≡ p ++ drop n old
     → set xs n v ≡ p ++ (v ∷ []) ++ drop (suc n) old
 put-after p old xs n v e h q = rw (q, drop-cons old n 0 h, set_at p (get_or old n 0) (drop (suc n) old) v n e, append_snoc)
-
--- one byte more of a text
-pub byte-in : (text old out : List ℕ) (i : ℕ) → i < length text → length text ≤ length old → out ≡ take i text ++ drop i old
-    → set out i (get_or text i 0) ≡ take (i + 1) text ++ drop (i + 1) old
-byte-in text old out i h p e =
-    put-after (take i text) old out i (get_or text i 0) (length-take-le i text (omega arith)) (omega arith) e ∙ rw (add-one, take-suc text i 0 h)
 
 pub length_digits : (base k n : ℕ) → length (digits base k n) ≡ k
 unfolding digits

@@ -1,61 +1,67 @@
 // One byte of the input.
-ghost use Rattle.std.specs.Prelude.{◌≡◌, ◌<◌};
+ghost use Rattle.std.specs.Prelude.{◌≡◌, ◌<◌, MatchOption};
+ghost use Rattle.walking.specs.Walking.{step_number};
 ghost use Rattle.maskwalk_text.specs.Text.{step_of};
-ghost use Rattle.maskwalk_text.specs.Scan.{kept_at, read_byte, take_byte};
 
-use crate::{HELD, OVER, START, Scan};
+use crate::{HELD, OVER, Reader, START, Scan};
+use walking::steps::Step;
 
-// The step byte of a letter, or 0.
-fn step_of(letter: u8) -> u8
-    ensures { result ≡ step_of letter }
+// The step of a letter.
+#[tactic(auto, unfolding(crate::specs::Text::step_of))]
+fn step_of(letter: u8) -> Option<Step>
+    ensures { MatchOption result (step_of letter ≡ 0) (λ s. step_number s ≡ step_of letter) }
 {
     match letter {
-        b'a' => 1,
-        b'b' => 2,
-        b'g' => 3,
-        b'A' => 4,
-        b'B' => 5,
-        b'G' => 6,
-        _ => 0,
+        b'a' => Some(Step::Alpha),
+        b'b' => Some(Step::Beta),
+        b'g' => Some(Step::Gamma),
+        b'A' => Some(Step::BackAlpha),
+        b'B' => Some(Step::BackBeta),
+        b'G' => Some(Step::BackGamma),
+        _ => None,
     }
 }
 
-// A byte to place n.
-fn keep(n: usize, b: u8, held: &mut [u8; HELD]) -> Scan
-    requires { n < 4224 }
-    ensures { (result, held.new) ≡ kept_at n b held.old }
-{
-    held[n] = b;
-    Scan::Reading(n + 1)
-}
+impl Reader {
+    ghost use Rattle.maskwalk_text.specs.Scan.{kept_at, read_byte, take_byte};
 
-// A byte after n of them: of the start, or a letter.
-fn read_byte(n: usize, b: u8, held: &mut [u8; HELD]) -> Scan
-    ensures { (result, held.new) ≡ read_byte n b held.old }
-{
-    if n < START {
-        return keep(n, b, held);
+    // A byte to place n.
+    #[tactic(auto, unfolding(crate::specs::Scan::kept_at))]
+    fn keep(&mut self, n: usize, b: u8)
+        requires { n < 4224 }
+        ensures { (self.new.scan, self.new.held) ≡ kept_at n b self.old.held }
+    {
+        self.held[n] = b;
+        self.scan = Scan::Reading(n + 1);
     }
-    if b == b'\n' {
-        return Scan::Ended(n);
-    }
-    let step = step_of(b);
-    if step == 0 {
-        return Scan::Wrong;
-    }
-    if n < HELD {
-        return keep(n, step, held);
-    }
-    Scan::Reading(OVER)
-}
 
-// A byte; after the line feed or a wrong byte nothing changes.
-pub fn take_byte(s: Scan, b: u8, held: &mut [u8; HELD]) -> Scan
-    ensures { (result, held.new) ≡ take_byte s b held.old }
-{
-    match s {
-        Scan::Reading(n) => read_byte(n, b, held),
-        Scan::Ended(n) => Scan::Ended(n),
-        Scan::Wrong => Scan::Wrong,
+    // A byte after n of them: of the start, or a letter.
+    #[tactic(auto, unfolding(crate::specs::Scan::read_byte))]
+    fn read_byte(&mut self, n: usize, b: u8)
+        ensures { (self.new.scan, self.new.held) ≡ read_byte n b self.old.held }
+    {
+        if n < START {
+            self.keep(n, b);
+        } else if b == b'\n' {
+            self.scan = Scan::Ended(n);
+        } else if let Some(step) = step_of(b) {
+            if n < HELD {
+                self.keep(n, step.into());
+            } else {
+                self.scan = Scan::Reading(OVER);
+            }
+        } else {
+            self.scan = Scan::Wrong;
+        }
+    }
+
+    // A byte; after the line feed or a wrong byte nothing changes.
+    #[tactic(auto, unfolding(crate::specs::Scan::take_byte))]
+    pub fn take_byte(&mut self, b: u8)
+        ensures { (self.new.scan, self.new.held) ≡ take_byte self.old.scan b self.old.held }
+    {
+        if let Scan::Reading(n) = self.scan {
+            self.read_byte(n, b);
+        }
     }
 }

@@ -4,6 +4,7 @@ ghost use Rattle.maskwalk_text.specs.Text.{line, lines, written};
 ghost use Rattle.maskwalk_text.specs.Text.{digit as Text·digit, digits as Text·digits};
 
 // A digit below sixteen.
+#[tactic(auto, unfolding(crate::specs::Text::digit))]
 fn digit(d: u64) -> u8
     requires { d < 16 }
     ensures { result ≡ Text·digit d }
@@ -11,15 +12,15 @@ fn digit(d: u64) -> u8
     if d < 10 { 48 + d as u8 } else { 87 + d as u8 }
 }
 
-// The k low digits of n into the first k places, from the last to the first.
-fn digits(n: u64, base: u64, k: usize, out: &mut [u8])
-    requires { (0 < base) × (base ≤ 16) × (k ≤ length out.old) }
-    ensures { out.new ≡ Text·digits base k n ++ drop k out.old }
+// The low digits of n, one into each place, from the last to the first.
+// Kept: tried `write!` with `{:02}`, `{:016x}`; std promises no Ok of it, so `written` stays open.
+#[tactic(auto, unfolding(crate::specs::Text::digits))]
+fn digits(n: u64, base: u64, out: &mut [u8])
+    requires { (0 < base) × (base ≤ 16) }
+    ensures { out.new ≡ Text·digits base (length out.old) n }
 {
-    let mut i = k;
     let mut rest = n;
-    while i > 0 {
-        i -= 1;
+    for i in (0..out.len()).rev() {
         out[i] = digit(rest % base);
         rest /= base;
     }
@@ -30,34 +31,31 @@ fn write_line(word: u64, i: usize, out: &mut [u8])
     requires { 20 ≤ length out.old }
     ensures { out.new ≡ line i word ++ drop 20 out.old }
 {
-    digits(i as u64, 10, 2, out);
+    digits(i as u64, 10, &mut out[..2]);
     out[2] = b' ';
-    digits(word, 16, 16, &mut out[3..]);
+    digits(word, 16, &mut out[3..19]);
     out[19] = b'\n';
 }
 
 // The sixteen lines of a block into the first 320 places.
+#[tactic(auto, unfolding(words::specs::Sequence::cat))]
 pub fn write_lines(b: [u64; 16], out: &mut [u8])
     requires { 320 ≤ length out.old }
     ensures { out.new ≡ lines b ++ drop 320 out.old }
 {
-    let mut i: usize = 0;
-    while i < 16 {
+    for (i, &word) in b.iter().enumerate() {
         let at = 20 * i;
-        write_line(b[i], i, &mut out[at..]);
-        i += 1;
+        write_line(word, i, &mut out[at..]);
     }
 }
 
 // A text into the first places, and its length.
+#[tactic(auto, unfolding(crate::specs::Text::written))]
 pub fn put(text: &[u8], out: &mut [u8]) -> usize
     requires { length text.now ≤ length out.old }
     ensures { (result, out.new) ≡ written text.now out.old }
 {
-    let mut i: usize = 0;
-    while i < text.len() {
-        out[i] = text[i];
-        i += 1;
-    }
-    i
+    let n = text.len();
+    out[..n].copy_from_slice(text);
+    n
 }

@@ -8,7 +8,8 @@ use Rattle.blockplan.specs.Plan.{ciphered}
 use Rattle.blockplan.specs.Lawful.{Lawful}
 use Rattle.blockplan.proofs.Tags.{length-tag_bytes, bytes-tag_bytes}
 use Rattle.blockplan.proofs.Ciphered.{length-ciphered, bytes-ciphered, ciphered-undo}
-use Rattle.mro.proofs.Streams.{xored, formed, formed-block, xored-formed}
+use Rattle.mro.specs.Streams.{xored}
+use Rattle.mro.proofs.Streams.{formed, formed-block, xored-formed}
 use Rattle.mro.specs.Mro.{mro_tag, mro_stream, streamed, mro_cipher, mro_mode}
 
 xored-back : (k : ℕ → List ℕ) (s : List ℕ) → Bytes s → ciphered (xored k) k (ciphered (xored k) k s) ≡ s

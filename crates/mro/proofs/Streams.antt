@@ -13,7 +13,7 @@ use Rattle.mem.specs.Mem.{encipher}
 use Rattle.blockplan.specs.Plan.{whole, left, block_at, ciphered, tag_bytes}
 use Rattle.blockplan.proofs.Tags.{word-tag}
 use Rattle.mro.specs.Mro.{counter}
-use Rattle.mro.specs.Streams.{stream_from, streamed_from}
+use Rattle.mro.specs.Streams.{stream_from, streamed_from, onward, xored}
 
 -- the counter's block, word by word
 pub counter-words : (b : List ℕ) → Block b → (i : ℕ)
@@ -24,10 +24,6 @@ counter-words b h i = rw (word-tag b h 0 (lit< tt), word-tag b h 1 (lit< tt), wo
 -- the stream's block i, its mask given
 unfoldable pub stream_at : ℕ → List ℕ → List ℕ → ℕ → List ℕ
 stream_at rounds mask tag i = encipher rounds mask (counter tag i)
-
--- a block xored with block i of a stream
-unfoldable pub xored : (ℕ → List ℕ) → ℕ → List ℕ → List ℕ
-xored k i b = xor_block b (k i)
 
 -- only the stream's bytes count, so that its blocks may be taken to be well formed
 unfoldable pub formed : (ℕ → List ℕ) → ℕ → List ℕ
@@ -53,12 +49,17 @@ xored-formed k s =
     (sym (formed-bytes k (whole s)))
 
 -- from block 0 on it is the whole stream
-pub from_first : (rounds : ℕ) (mask tag s : List ℕ) → ciphered (streamed_from rounds mask tag 0) (stream_from rounds mask tag 0) s
-    ≡ ciphered (xored (stream_at rounds mask tag)) (stream_at rounds mask tag) s
-unfolding ciphered streamed_from stream_from xored stream_at
-from_first rounds mask tag s =
-    let at : (i : ℕ) → encipher rounds mask (counter tag (0 + i)) ≡ encipher rounds mask (counter tag i) = λ i. ap (λ (k : ℕ). encipher rounds mask (counter tag k)) (zero-add i) in
+pub onward-none : (k : ℕ → List ℕ) (s : List ℕ) → ciphered (xored (onward k 0)) (onward k 0) s ≡ ciphered (xored k) k s
+unfolding ciphered onward xored
+onward-none k s =
+    let at : (i : ℕ) → k (0 + i) ≡ k i = λ i. ap k (zero-add i) in
     ap₂ (λ (a b : List ℕ). a ++ xor_bytes (left s) b)
-    (cat-ext (λ i. bytes_of (xor_block (block_at s i) (encipher rounds mask (counter tag (0 + i))))) (λ i. bytes_of (xor_block (block_at s i) (encipher rounds mask (counter tag i)))) (whole s)
+    (cat-ext (λ i. bytes_of (xor_block (block_at s i) (k (0 + i)))) (λ i. bytes_of (xor_block (block_at s i) (k i))) (whole s)
     (λ i h. ap (λ (b : List ℕ). bytes_of (xor_block (block_at s i) b)) (at i)))
     (ap bytes_of (at (whole s)))
+
+-- the same of a tag's stream
+pub from_first : (rounds : ℕ) (mask tag s : List ℕ) → ciphered (streamed_from rounds mask tag 0) (stream_from rounds mask tag 0) s
+    ≡ ciphered (xored (stream_at rounds mask tag)) (stream_at rounds mask tag) s
+unfolding streamed_from stream_from stream_at onward xored
+from_first rounds mask tag s = onward-none (λ i. encipher rounds mask (counter tag i)) s

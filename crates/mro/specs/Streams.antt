@@ -11,3 +11,11 @@ stream_from rounds mask tag n i = encipher rounds mask (counter tag (n + i))
 -- a block xored with it
 unfoldable pub streamed_from : ℕ → List ℕ → List ℕ → ℕ → ℕ → List ℕ → List ℕ
 streamed_from rounds mask tag n i block = xor_block block (stream_from rounds mask tag n i)
+
+-- block n + i of a stream
+unfoldable pub onward : (ℕ → List ℕ) → ℕ → ℕ → List ℕ
+onward k n i = k (n + i)
+
+-- a block xored with block i of a stream
+unfoldable pub xored : (ℕ → List ℕ) → ℕ → List ℕ → List ℕ
+xored k i block = xor_block block (k i)

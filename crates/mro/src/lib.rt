@@ -15,6 +15,8 @@ pub mod stream;
 pub mod sums;
 
 // The parcel to the front of the output: the ciphertext and then the tag.
+// Kept: no twin of OPP's, here and in open: the tag comes first here, since the stream comes from it, and
+// last there, from the check that the one pass ends with.
 pub fn seal(start: [u64; 16], rounds: u32, header: &[u8], message: &[u8], out: &mut [u8])
     requires { length message.now + 32 ≤ length out.old }
     ensures { out.new ≡ parcel_of (mro_mode rounds start) header.now message.now ++ drop (length message.now + 32) out.old }

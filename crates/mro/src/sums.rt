@@ -16,7 +16,7 @@ use words::block::xor;
 fn absorb_all(s: &[u8], first: [u64; 16], rounds: u32) -> [u64; 16]
     ensures { result ≡ xor_over (made_at (under false rounds (stepping first)) s.now) (blocks s.now) }
 {
-    absorb(s, first, false, 0, rounds)
+    absorb::<false>(s, first, 0, rounds)
 }
 
 // E of the sum xor the two lengths: the block whose first 32 bytes are the tag.
@@ -37,6 +37,8 @@ pub fn tag_under(
 
 // The block whose first 32 bytes are the tag, from the sum over the message's blocks and the
 // message's length.
+// Kept: start and rounds apart: header, message and tag each have a mask stepped on from the start, and
+// only the count goes along, so that a struct would be taken apart at each call.
 pub fn tag_from(
     start: [u64; 16],
     rounds: u32,

@@ -15,7 +15,7 @@ use Rattle.blockplan.proofs.Sums.{xor_over-ext}
 use Rattle.blockplan.proofs.Leftovers.{no-left, some_left, block-block_at}
 use Rattle.blockplan.proofs.Ciphered.{whole-ciphered, has_left-ciphered, left-ciphered, block_at-ciphered}
 use Rattle.mro.specs.Mro.{blocks, mro_stream, streamed, mro_cipher, mro_mode}
-use Rattle.mro.proofs.Streams.{xored}
+use Rattle.mro.specs.Streams.{xored}
 
 -- a block as the sum takes it in: xored with block i of the stream, and E of that
 unfoldable pub taken_at : ℕ → (ℕ → List ℕ) → (ℕ → List ℕ) → ℕ → List ℕ → List ℕ

@@ -17,7 +17,8 @@ use Rattle.blockplan.specs.Pass.{made_at, bytes_at}
 use Rattle.blockplan.proofs.Leftovers.{left_lt, block-block_at}
 use Rattle.blockplan.proofs.Ciphered.{whole-ciphered, left-ciphered, block_at-ciphered}
 use Rattle.mro.specs.Mro.{counter}
-use Rattle.mro.proofs.Streams.{stream_at, xored, formed, formed-block, formed-bytes, xored-formed}
+use Rattle.mro.specs.Streams.{xored}
+use Rattle.mro.proofs.Streams.{stream_at, formed, formed-block, formed-bytes, xored-formed}
 
 one_below : (i m : ℕ) → 0 < m → i < m → (j : ℕ) → get_or (i ∷ []) j 0 < m
 one_below i m z h zero = h

@@ -8,9 +8,9 @@ ghost use Rattle.blockplan.specs.Pass.{made_at, under, stepping};
 ghost use Rattle.mro.specs.Mro.{blocks, mro_sum, lengths, mro_cipher, mro_mode};
 
 use blockplan::leftover::xor_leftover;
-use masks::steps::{alpha, beta, gamma};
+use masks::steps::{alpha, beta};
 use mem::cipher::encipher;
-use mro::stream::{load_tag, stream_block};
+use mro::stream::{Stream, TagStream, load_tag};
 use mro::sums::tag_from;
 use words::block::{load, xor, zero};
 
@@ -40,26 +40,23 @@ fn absorb_opened(
 ) -> [u64; 16]
     ensures { result ≡ xor_over (made_at (under false rounds (stepping first)) (mro_cipher rounds from (tag_bytes tag) s.now)) (blocks s.now) }
 {
-    let stream_mask = gamma(from);
+    let stream = TagStream::from_start(tag, from, rounds);
     let mut sum = zero();
     let mut mask = first;
     let whole = s.len() / 128;
-    let mut i: usize = 0;
-    while i < whole {
+    for i in 0..whole {
         let at = 128 * i;
-        let block = xor(load(&s[at..]), stream_block(tag, i, stream_mask, rounds));
+        let block = xor(load(&s[at..]), stream.block(i));
         let next = xor(sum, encipher(block, mask, rounds));
         sum = next;
         let step = alpha(mask);
         mask = step;
-        i += 1;
     }
     let at = 128 * whole;
     if at == s.len() {
         return sum;
     }
-    let last = stream_block(tag, whole, stream_mask, rounds);
-    absorb_last(sum, &s[at..], last, mask, rounds)
+    absorb_last(sum, &s[at..], stream.block(whole), mask, rounds)
 }
 
 // The block that begins with the tag, under one start, of the message that a parcel holds under

@@ -23,6 +23,8 @@ pub fn judge(start: [u64; 16], rounds: u32, header: &[u8], parcel: &[u8]) -> boo
 }
 
 // The parcel, under another start, of the message that this one holds.
+// Kept: no twin of OPP's, here and in judge: the message is opened once for its tag and once more under both
+// streams, and there in one pass.
 pub fn reseal(
     from: [u64; 16],
     to: [u64; 16],

@@ -8,15 +8,15 @@ use lib.ListN.{length, take, drop}
 use Rattle.words.specs.Sequence.{cat}
 use Rattle.words.specs.Block.{Block, bytes_of, xor_block}
 use Rattle.masks.specs.Run.{mask_from, IsRun}
-use Rattle.mem.specs.Mem.{mask_at, encipher, E}
-use Rattle.runs.proofs.Planned.{beta-two, plan-alpha, plan-beta, plan-gamma}
+use Rattle.mem.specs.Mem.{encipher, E}
+use Rattle.runs.proofs.Planned.{plan-alpha, plan-beta, plan-gamma}
 use Rattle.blockplan.specs.Plan.{whole, has_left, absorb_at, xor_over, ciphered}
 use Rattle.blockplan.specs.Pass.{made_at, bytes_at, under, planned}
 use Rattle.blockplan.proofs.Passes.{sum-agree}
 use Rattle.quads.proofs.Moved.{block-moved, ciphered-joined}
 use Rattle.mro.specs.Mro.{blocks, counter, mro_sum, mro_stream, streamed, mro_cipher}
-use Rattle.mro.specs.Streams.{stream_from, streamed_from}
-use Rattle.mro.proofs.Streams.{stream_at, xored, from_first}
+use Rattle.mro.specs.Streams.{stream_from, streamed_from, xored}
+use Rattle.mro.proofs.Streams.{stream_at, from_first}
 
 -- a padded block more, or none
 one_more : (b : Bool) (n : ℕ) → cond b (suc n) n ≤ n + 1
@@ -33,10 +33,6 @@ module _ (w : List ℕ) (is : IsRun w) (b : Block (take 16 w)) where
         ap₂ xor_block
         (sum-agree false rounds (mask_from 0 w) (planned (take 16 w) 0 0) header (blocks header) (λ i p. plan-alpha w is b i (omega (arith, one_more (has_left header) (whole header)))))
         (sum-agree false rounds (mask_from 1 w) (planned (take 16 w) 1 0) message (blocks message) (λ i p. plan-beta w is b i (omega (arith, one_more (has_left message) (whole message)))))
-
-  -- the tag's mask
-  pub tag-mask : 21 ≤ length w → xor_block (mask_from 0 w (0 + 2)) (mask_from 0 w 0) ≡ mask_at (take 16 w) 0 2 0
-  tag-mask h = ap₂ xor_block (plan-alpha w is b 2 (omega arith)) (plan-alpha w is b 0 (omega arith)) ∙ beta-two (take 16 w) b 0 0 0
 
   -- the whole stream
   pub stream-from-run : (rounds : ℕ) (tag s mask : List ℕ) → 21 ≤ length w → mask ≡ mask_from 2 w 0

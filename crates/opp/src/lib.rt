@@ -15,11 +15,13 @@ pub mod message;
 pub mod tag;
 
 // The parcel to the front of the output: the ciphertext and then the tag.
+// Kept: start and rounds apart, here and below: each part of the work steps the start on to a mask of its
+// own and hands only the count along, so that a struct would be taken apart at each call.
 pub fn seal(start: [u64; 16], rounds: u32, header: &[u8], message: &[u8], out: &mut [u8])
     requires { length message.now + 32 ≤ length out.old }
     ensures { out.new ≡ parcel_of (opp_mode rounds start) header.now message.now ++ drop (length message.now + 32) out.old }
 {
-    let passed = pass(start, rounds, message, false, out);
+    let passed = pass::<false>(start, rounds, message, out);
     let at = message.len();
     store_tag(tag_block(start, rounds, header, passed), &mut out[at..]);
 }
@@ -30,6 +32,6 @@ pub fn open(start: [u64; 16], rounds: u32, header: &[u8], parcel: &[u8], out: &m
     ensures { (result, out.new) ≡ opened (opp_mode rounds start) header.now parcel.now out.old }
 {
     let n = parcel.len() - 32;
-    let passed = pass(start, rounds, &parcel[..n], true, out);
+    let passed = pass::<true>(start, rounds, &parcel[..n], out);
     verify(tag_block(start, rounds, header, passed), parcel, out)
 }

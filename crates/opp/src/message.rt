@@ -14,11 +14,12 @@ use opp_blocks::pass_blocks;
 use words::block::{xor, zero};
 
 // The plain one of a leftover's two forms, padded.
-fn padded_plain(opening: bool, made: &[u8], given: &[u8]) -> [u64; 16]
+#[tactic(auto, unfolding(crate::specs::Opp::padded))]
+fn padded_plain<const OPENING: bool>(made: &[u8], given: &[u8]) -> [u64; 16]
     requires { (length made.now < 128) × (length given.now < 128) }
-    ensures { result ≡ padded_of (cond opening made.now given.now) }
+    ensures { result ≡ padded_of (cond OPENING made.now given.now) }
 {
-    if opening {
+    if OPENING {
         padded(made, 1)
     } else {
         padded(given, 1)
@@ -26,47 +27,49 @@ fn padded_plain(opening: bool, made: &[u8], given: &[u8]) -> [u64; 16]
 }
 
 // The leftover under its own mask: the sum with its plain form in it.
-pub fn pass_leftover_under(
+pub fn pass_leftover_under<const OPENING: bool>(
     sum: [u64; 16],
     mask: [u64; 16],
     rounds: u32,
     s: &[u8],
-    opening: bool,
     out: &mut [u8],
 ) -> [u64; 16]
     requires { (length s.now < 128) × (length s.now ≤ length out.old) }
     ensures out_after { out.new ≡ xor_bytes s.now (bytes_of (encipher_of rounds mask zero_block)) ++ drop (length s.now) out.old }
-    ensures value { result ≡ xor_block sum (padded_of (cond opening (xor_bytes s.now (bytes_of (encipher_of rounds mask zero_block))) s.now)) }
+    ensures value { result ≡ xor_block sum (padded_of (cond OPENING (xor_bytes s.now (bytes_of (encipher_of rounds mask zero_block))) s.now)) }
 {
     xor_leftover(s, encipher(zero(), mask, rounds), out);
     let n = s.len();
-    let last = padded_plain(opening, &out[..n], s);
+    let last = padded_plain::<OPENING>(&out[..n], s);
     xor(sum, last)
 }
 
 // The leftover, under a mask a beta step on from the one after the whole blocks.
-pub fn pass_leftover(blocks: Summed, rounds: u32, s: &[u8], opening: bool, out: &mut [u8]) -> Summed
+pub fn pass_leftover<const OPENING: bool>(
+    blocks: Summed,
+    rounds: u32,
+    s: &[u8],
+    out: &mut [u8],
+) -> Summed
     requires { (length s.now < 128) × (length s.now ≤ length out.old) }
     ensures out_after { out.new ≡ xor_bytes s.now (bytes_of (encipher_of rounds (beta_of blocks.mask) zero_block)) ++ drop (length s.now) out.old }
-    ensures sum_value { (result.sum ≡ xor_block blocks.sum (padded_of (cond opening (xor_bytes s.now (bytes_of (encipher_of rounds (beta_of blocks.mask) zero_block))) s.now))) × (result.mask ≡ beta_of blocks.mask) }
+    ensures sum_value { (result.sum ≡ xor_block blocks.sum (padded_of (cond OPENING (xor_bytes s.now (bytes_of (encipher_of rounds (beta_of blocks.mask) zero_block))) s.now))) × (result.mask ≡ beta_of blocks.mask) }
 {
-    let blocks_mask = blocks.mask;
-    let mask = beta(blocks_mask);
-    let before = blocks.sum;
-    let sum = pass_leftover_under(before, mask, rounds, s, opening, out);
+    let mask = beta(blocks.mask);
+    let sum = pass_leftover_under::<OPENING>(blocks.sum, mask, rounds, s, out);
     Summed { sum, mask }
 }
 
 // All bytes. The sum is the check over the plain ones.
-pub fn pass(start: [u64; 16], rounds: u32, s: &[u8], opening: bool, out: &mut [u8]) -> Summed
+pub fn pass<const OPENING: bool>(start: [u64; 16], rounds: u32, s: &[u8], out: &mut [u8]) -> Summed
     requires { length s.now ≤ length out.old }
-    ensures { AllPassed opening rounds start s.now out.old out.new result.sum result.mask }
+    ensures { AllPassed OPENING rounds start s.now out.old out.new result.sum result.mask }
 {
-    let blocks = pass_blocks(gamma(start), rounds, s, opening, out);
+    let blocks = pass_blocks::<OPENING>(gamma(start), rounds, s, out);
     let n = s.len();
     let at = 128 * (n / 128);
     if at == n {
         return blocks;
     }
-    pass_leftover(blocks, rounds, &s[at..], opening, &mut out[at..])
+    pass_leftover::<OPENING>(blocks, rounds, &s[at..], &mut out[at..])
 }

@@ -15,15 +15,13 @@ use words::block::xor;
 fn header_sum(start: [u64; 16], rounds: u32, header: &[u8]) -> [u64; 16]
     ensures { result ≡ opp_sum rounds start header.now }
 {
-    absorb(header, start, true, 1, rounds)
+    absorb::<true>(header, start, 1, rounds)
 }
 
 // Sum, xor E of the check under a mask two beta steps on from the one that the pass ends with.
 pub fn tag_block(start: [u64; 16], rounds: u32, header: &[u8], passed: Summed) -> [u64; 16]
     ensures { result ≡ xor_block (opp_sum rounds start header.now) (encipher_of rounds (beta_of (beta_of passed.mask)) passed.sum) }
 {
-    let check = passed.sum;
-    let mask = passed.mask;
     let sum = header_sum(start, rounds, header);
-    xor(sum, encipher(check, beta(beta(mask)), rounds))
+    xor(sum, encipher(passed.sum, beta(beta(passed.mask)), rounds))
 }

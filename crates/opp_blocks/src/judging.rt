@@ -10,6 +10,8 @@ use words::block::{load, xor, zero};
 
 // The check over the whole blocks as they are when opened, and the mask of the next block; nothing
 // is written.
+// Kept: `rest` is shortened by hand, as in blockplan's absorb, so that the same laws prove both; and beside absorb,
+// which goes on to the leftover, where here the caller does.
 pub fn check_blocks(first: [u64; 16], rounds: u32, s: &[u8]) -> Summed
     ensures { (result.sum ≡ xor_over (made_at (under true rounds (stepping first)) s.now) (whole s.now)) × (result.mask ≡ stepping first (whole s.now)) }
 {

@@ -1,31 +1,12 @@
 // The whole blocks opened.
-ghost use Rattle.std.specs.Prelude.{◌≡◌, true, ◌++◌, ◌≤◌, length, drop};
-ghost use Rattle.words.specs.Block.{block_of, bytes_of, xor_block};
-ghost use Rattle.mem.specs.Mem.{decipher as decipher_of};
+ghost use Rattle.std.specs.Prelude.{true, ◌≤◌, length};
 ghost use Rattle.blockplan.specs.Plan.{whole};
 ghost use Rattle.blockplan.specs.Pass.{stepping, Passed};
 
+use crate::one::pass_block;
 use blockplan::Summed;
 use masks::steps::alpha;
-use mem::cipher::decipher;
-use words::block::{load, store, xor, zero};
-
-// One block opened: D of it to the front of the output, and into the check.
-pub fn open_block(
-    sum: [u64; 16],
-    mask: [u64; 16],
-    rounds: u32,
-    s: &[u8],
-    out: &mut [u8],
-) -> [u64; 16]
-    requires { (128 ≤ length s.now) × (128 ≤ length out.old) }
-    ensures out_after { out.new ≡ bytes_of (decipher_of rounds mask (block_of s.now)) ++ drop 128 out.old }
-    ensures value { result ≡ xor_block sum (decipher_of rounds mask (block_of s.now)) }
-{
-    let made = decipher(load(s), mask, rounds);
-    store(made, out);
-    xor(sum, made)
-}
+use words::block::zero;
 
 // The whole blocks opened, each written at its own offset.
 pub fn open_blocks(first: [u64; 16], rounds: u32, s: &[u8], out: &mut [u8]) -> Summed
@@ -34,15 +15,12 @@ pub fn open_blocks(first: [u64; 16], rounds: u32, s: &[u8], out: &mut [u8]) -> S
 {
     let mut sum = zero();
     let mut mask = first;
-    let count = s.len() / 128;
-    let mut i: usize = 0;
-    while i < count {
+    for i in 0..s.len() / 128 {
         let at = 128 * i;
-        let next = open_block(sum, mask, rounds, &s[at..], &mut out[at..]);
-        sum = next;
+        let more = pass_block::<true>(sum, mask, rounds, &s[at..], &mut out[at..]);
+        sum = more;
         let step = alpha(mask);
         mask = step;
-        i += 1;
     }
     Summed { sum, mask }
 }

@@ -53,9 +53,7 @@ pub fn reseal_blocks(
     let mut sum = zero();
     let mut from = first_from;
     let mut to = first_to;
-    let count = s.len() / 128;
-    let mut i: usize = 0;
-    while i < count {
+    for i in 0..s.len() / 128 {
         let at = 128 * i;
         let more = reseal_block(sum, from, to, rounds, &s[at..], &mut out[at..]);
         sum = more;
@@ -63,7 +61,6 @@ pub fn reseal_blocks(
         from = from_step;
         let to_step = alpha(to);
         to = to_step;
-        i += 1;
     }
     Resealed { sum, from, to }
 }

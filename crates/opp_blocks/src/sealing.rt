@@ -5,28 +5,11 @@ ghost use Rattle.mem.specs.Mem.{encipher as encipher_of};
 ghost use Rattle.blockplan.specs.Plan.{whole};
 ghost use Rattle.blockplan.specs.Pass.{stepping, Passed};
 
+use crate::one::pass_block;
 use blockplan::Summed;
 use masks::steps::alpha;
 use mem::cipher::encipher;
 use words::block::{load, store, xor, zero};
-
-// One block sealed: E of it to the front of the output, and the block itself into the check.
-pub fn seal_block(
-    sum: [u64; 16],
-    mask: [u64; 16],
-    rounds: u32,
-    s: &[u8],
-    out: &mut [u8],
-) -> [u64; 16]
-    requires { (128 ≤ length s.now) × (128 ≤ length out.old) }
-    ensures out_after { out.new ≡ bytes_of (encipher_of rounds mask (block_of s.now)) ++ drop 128 out.old }
-    ensures value { result ≡ xor_block sum (block_of s.now) }
-{
-    let given = load(s);
-    let more = xor(sum, given);
-    store(encipher(given, mask, rounds), out);
-    more
-}
 
 // Two blocks sealed, the second under the next mask. A turn of two moves the mask's words half as
 // often, and reading the blocks again for the check is cheaper than keeping their words while P runs.
@@ -48,8 +31,9 @@ fn seal_pair(
     xor(more, load(&s[128..]))
 }
 
-// The whole blocks sealed, each written at its own offset. The two ways have a loop each, since one
-// loop for both is a fifth slower.
+// The whole blocks sealed, each written at its own offset: two in a turn, and one at the end where their
+// number is odd.
+// Kept: beside open_blocks, which takes one block in a turn: two move the mask's words half as often (docs/DECISIONS.md).
 pub fn seal_blocks(first: [u64; 16], rounds: u32, s: &[u8], out: &mut [u8]) -> Summed
     requires { length s.now ≤ length out.old }
     ensures { Passed false rounds (stepping first) s.now (whole s.now) out.old out.new result.sum result.mask }
@@ -57,21 +41,19 @@ pub fn seal_blocks(first: [u64; 16], rounds: u32, s: &[u8], out: &mut [u8]) -> S
     let mut sum = zero();
     let mut mask = first;
     let count = s.len() / 128;
-    let mut i: usize = 0;
-    while i + 1 < count {
-        let at = 128 * i;
+    for i in 0..count / 2 {
+        let at = 256 * i;
         let next = alpha(mask);
         let more = seal_pair(sum, mask, next, rounds, &s[at..], &mut out[at..]);
         sum = more;
         let step = alpha(next);
         mask = step;
-        i += 2;
     }
-    if i == count {
+    if count % 2 == 0 {
         return Summed { sum, mask };
     }
-    let at = 128 * i;
-    let more = seal_block(sum, mask, rounds, &s[at..], &mut out[at..]);
+    let at = 128 * (count - 1);
+    let more = pass_block::<false>(sum, mask, rounds, &s[at..], &mut out[at..]);
     Summed {
         sum: more,
         mask: alpha(mask),

@@ -20,5 +20,5 @@ pub fn check(start: [u64; 16], rounds: u32, s: &[u8]) -> Summed
         return blocks;
     }
     let mut bytes = [0u8; 128];
-    pass_leftover(blocks, rounds, &s[at..], true, &mut bytes)
+    pass_leftover::<true>(blocks, rounds, &s[at..], &mut bytes)
 }

@@ -17,13 +17,11 @@ fn reseal_leftover(blocks: Resealed, rounds: u32, s: &[u8], out: &mut [u8]) -> S
     ensures out_after { out.new ≡ xor_bytes (xor_bytes s.now (bytes_of (encipher_of rounds (beta_of blocks.from) zero_block))) (bytes_of (encipher_of rounds (beta_of blocks.to) zero_block)) ++ drop (length s.now) out.old }
     ensures sum_value { (result.sum ≡ xor_block blocks.sum (padded_of (xor_bytes s.now (bytes_of (encipher_of rounds (beta_of blocks.from) zero_block))))) × (result.mask ≡ beta_of blocks.to) }
 {
-    let sum = blocks.sum;
-    let from = blocks.from;
-    let to = blocks.to;
+    let Resealed { sum, from, to } = blocks;
     let mut bytes = [0u8; 128];
     let n = s.len();
-    pass_leftover(Summed { sum, mask: from }, rounds, s, true, &mut bytes);
-    pass_leftover(Summed { sum, mask: to }, rounds, &bytes[..n], false, out)
+    pass_leftover::<true>(Summed { sum, mask: from }, rounds, s, &mut bytes);
+    pass_leftover::<false>(Summed { sum, mask: to }, rounds, &bytes[..n], out)
 }
 
 // All bytes of a ciphertext: what seals its message from the other start goes to the output.
@@ -35,9 +33,8 @@ pub fn reseal_all(from: [u64; 16], to: [u64; 16], rounds: u32, s: &[u8], out: &m
     let n = s.len();
     let at = 128 * (n / 128);
     if at == n {
-        let sum = blocks.sum;
-        let mask = blocks.to;
-        return Summed { sum, mask };
+        let Resealed { sum, to, .. } = blocks;
+        return Summed { sum, mask: to };
     }
     reseal_leftover(blocks, rounds, &s[at..], &mut out[at..])
 }

@@ -1,18 +1,18 @@
 -- The plan of OPP under masks out of a run. Assumes nothing.
-use mathlib.Core.Path.{◌≡◌, sym, ap, ap₂, ◌∙◌}
+use mathlib.Core.Path.{◌≡◌, sym, ap, ◌∙◌}
 use mathlib.Core.Bool.{Bool, false}
 use mathlib.Core.List.{List, ◌++◌}
 use Prim.Native.Nat.{ℕ, ◌+◌, ◌≤◌, ◌<◌}
 use native.Mathlib.Omega.{arith}
 use lib.ListN.{length, get_or, take, get_or-append}
 use Rattle.words.specs.Sequence.{tab}
-use Rattle.words.specs.Block.{Block, xor_block}
+use Rattle.words.specs.Block.{Block}
 use Rattle.words.proofs.Lists.{length-tab, tab-ext, get_or-tab}
 use Rattle.masks.specs.Steps.{beta}
 use Rattle.masks.specs.Run.{neighbours, mask_from, IsRun}
 use Rattle.mem.specs.Mem.{mask_at, E}
 use Rattle.mem.proofs.Laws.{mask-beta}
-use Rattle.runs.proofs.Planned.{beta-on, beta-two, beta-three, plan-alpha, plan-gamma}
+use Rattle.runs.proofs.Planned.{plan-alpha, plan-gamma}
 use Rattle.blockplan.specs.Plan.{whole, absorb_at, xor_over}
 use Rattle.blockplan.specs.Pass.{made_at, under, planned, Passed}
 use Rattle.blockplan.proofs.Passes.{sum-agree, passed-agree}
@@ -39,21 +39,8 @@ module _ (w : List ℕ) (is : IsRun w) (b : Block (take 16 w)) (s : List ℕ) (r
     blocks-from-run opening rounds p = passed-agree opening rounds (mask_from 0 g) (planned (take 16 w) 0 1) s (whole s) made-at p
 
     -- the leftover's mask
-    pub left-mask : (mask : List ℕ) → mask ≡ xor_block (mask_from 2 w (whole s + 1)) (mask_from 2 w (whole s)) → mask ≡ beta (mask_from 0 g (whole s))
-    left-mask mask e =
-        e ∙ ap₂ xor_block (gamma-at (whole s + 1) (omega arith)) (gamma-at (whole s) (omega arith))
-        ∙ beta-on (take 16 w) b (whole s) 0 1 ∙ sym (mask-beta (take 16 w) b (whole s) 0 1) ∙ ap beta (sym (made-at (whole s) (omega arith)))
-
-  -- the tag's mask, without a leftover and with one
-  pub tag-mask-two : xor_block (mask_from 2 w (whole s + 2)) (mask_from 2 w (whole s)) ≡ mask_at (take 16 w) (whole s) 2 1
-  tag-mask-two = ap₂ xor_block (gamma-at (whole s + 2) (omega arith)) (gamma-at (whole s) (omega arith)) ∙ beta-two (take 16 w) b (whole s) 0 1
-
-  pub tag-mask-three : xor_block (xor_block (mask_from 2 w (whole s + 2 + 1)) (mask_from 2 w (whole s + 2))) (xor_block (mask_from 2 w (whole s + 1)) (mask_from 2 w (whole s)))
-      ≡ mask_at (take 16 w) (whole s) 3 1
-  tag-mask-three =
-      ap₂ xor_block (ap₂ xor_block (gamma-at (whole s + 2 + 1) (omega arith)) (gamma-at (whole s + 2) (omega arith)))
-      (ap₂ xor_block (gamma-at (whole s + 1) (omega arith)) (gamma-at (whole s) (omega arith)))
-      ∙ beta-three (take 16 w) b (whole s) 0 1
+    pub left-mask : (mask : List ℕ) → mask ≡ mask_at (take 16 w) (whole s) 1 1 → mask ≡ beta (mask_from 0 g (whole s))
+    left-mask mask e = e ∙ sym (mask-beta (take 16 w) b (whole s) 0 1) ∙ ap beta (sym (made-at (whole s) (omega arith)))
 
   -- the sum over a header's whole blocks
   pub header-from-run : (rounds : ℕ) → xor_over (made_at (under false rounds (mask_from 0 w)) s) (whole s) ≡ xor_over (absorb_at rounds (take 16 w) 0 s) (whole s)

@@ -1,39 +1,39 @@
 // The sum over the header, and the block whose first 32 bytes are the tag.
 ghost use Rattle.std.specs.Prelude.{◌≡◌, cond, ◌+◌, ◌≤◌, length, take};
 ghost use Rattle.words.specs.Block.{xor_block};
-ghost use Rattle.masks.specs.Run.{IsRun};
 ghost use Rattle.mem.specs.Mem.{mask_at, encipher as encipher_of};
 ghost use Rattle.blockplan.specs.Plan.{whole, has_left};
 ghost use Rattle.opp.specs.Opp.{opp_sum};
 
 use mem::cipher::encipher;
 use run_sums::absorb;
-use runs::windows::{beta_thrice_of, beta_twice_of};
+use runs::kinds::Kind;
+use runs::run::Run;
 use words::block::xor;
 
 // Sum: the header's whole blocks, and its leftover, padded with byte 1, under a beta mask.
-fn header_sum(run: &[u64], rounds: u32, header: &[u8]) -> [u64; 16]
-    requires { IsRun run.now × (whole header.now + 21 ≤ length run.now) }
+fn header_sum(run: &Run, rounds: u32, header: &[u8]) -> [u64; 16]
+    requires { whole header.now + 21 ≤ length run.now }
     ensures { result ≡ opp_sum rounds (take 16 run.now) header.now }
 {
-    absorb(run, 0, 1, 1, rounds, header)
+    absorb(run.words(), Kind::Alpha, Kind::Beta, 1, rounds, header)
 }
 
 // The mask of the check over a message as long as s.
-fn tag_mask(run: &[u64], s: &[u8]) -> [u64; 16]
-    requires { IsRun run.now × (whole s.now + 21 ≤ length run.now) }
+fn tag_mask(run: &Run, s: &[u8]) -> [u64; 16]
+    requires { whole s.now + 21 ≤ length run.now }
     ensures { result ≡ mask_at (take 16 run.now) (whole s.now) (cond (has_left s.now) 3 2) 1 }
 {
     let m = s.len() / 128;
     if 128 * m == s.len() {
-        return beta_twice_of(run, m, 2);
+        return run.beta_twice_of(m, Kind::Gamma);
     }
-    beta_thrice_of(run, m, 2)
+    run.beta_thrice_of(m, Kind::Gamma)
 }
 
 // Sum, xor E of the check. Of s, the message or its ciphertext, only the length counts.
-pub fn tag_block(run: &[u64], rounds: u32, header: &[u8], s: &[u8], check: [u64; 16]) -> [u64; 16]
-    requires { IsRun run.now × ((whole header.now + 21 ≤ length run.now) × (whole s.now + 21 ≤ length run.now)) }
+pub fn tag_block(run: &Run, rounds: u32, header: &[u8], s: &[u8], check: [u64; 16]) -> [u64; 16]
+    requires { (whole header.now + 21 ≤ length run.now) × (whole s.now + 21 ≤ length run.now) }
     ensures { result ≡ xor_block (opp_sum rounds (take 16 run.now) header.now) (encipher_of rounds (mask_at (take 16 run.now) (whole s.now) (cond (has_left s.now) 3 2) 1) check) }
 {
     let sum = header_sum(run, rounds, header);

@@ -22,9 +22,6 @@ pub record Row (row : List ℕ) : Type 0 where
   pub bd : get_or row 1 0 ≢ get_or row 3 0
   pub cd : get_or row 2 0 ≢ get_or row 3 0
 
-pub row_in : (row : List ℕ) → Row row → (get_or row 0 0 < 16) × ((get_or row 1 0 < 16) × ((get_or row 2 0 < 16) × (get_or row 3 0 < 16)))
-row_in row r = (r.a_in, (r.b-in, (r.c-in, r.d-in)))
-
 -- ---- four places read and written
 
 -- a place is written again, past one to three stores at other places

@@ -1,3 +1,4 @@
 pub mod Permutation
 pub mod Undo
 pub mod Order
+pub mod Way

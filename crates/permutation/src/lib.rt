@@ -5,3 +5,4 @@
 pub mod g;
 pub mod permute;
 pub mod round;
+pub mod way;

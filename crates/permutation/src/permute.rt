@@ -1,33 +1,17 @@
 // P with a count of rounds, and the back permutation.
 ghost use Rattle.std.specs.Prelude.{◌≡◌};
-ghost use Rattle.permutation.specs.Permutation.{perm, back_perm};
 
-use crate::round::{back_round, round};
+use crate::round::round;
+use crate::way::Way;
 
-// P of a block, for every count of rounds.
-pub fn permute(s: [u64; 16], rounds: u32) -> [u64; 16]
-    ensures { result ≡ perm rounds s }
+// For every count of rounds, P of a block at Forward, and P undone at Back.
+pub fn permute<W: Way>(s: [u64; 16], rounds: u32) -> [u64; 16]
+    ensures { result ≡ W.rounds rounds s }
 {
     let mut r = s;
-    let mut done: u32 = 0;
-    while done < rounds {
-        let next = round(r);
+    for _ in 0..rounds {
+        let next = round::<W>(r);
         r = next;
-        done += 1;
-    }
-    r
-}
-
-// P of a block undone, for every count of rounds.
-pub fn back_permute(s: [u64; 16], rounds: u32) -> [u64; 16]
-    ensures { result ≡ back_perm rounds s }
-{
-    let mut r = s;
-    let mut undone: u32 = 0;
-    while undone < rounds {
-        let next = back_round(r);
-        r = next;
-        undone += 1;
     }
     r
 }

@@ -1,8 +1,9 @@
-// A round, and a round undone.
+// A round, in either way.
 ghost use Rattle.std.specs.Prelude.{◌≡◌, ◌<◌, [], slice_index_or};
-ghost use Rattle.permutation.specs.Permutation.{groups, g_at, back_g_at, round as round_of, back_round};
+ghost use Rattle.permutation.specs.Permutation.{groups, step_at};
 
-use crate::g::{back_g_at, g_at};
+use crate::g::g_at;
+use crate::way::Way;
 
 // The eight groups of word numbers, as section 8 prints them: four columns, then four diagonals.
 pub const GROUPS: [[usize; 4]; 8] = [
@@ -16,48 +17,27 @@ pub const GROUPS: [[usize; 4]; 8] = [
     [3, 4, 9, 14],
 ];
 
-// G over group k.
-fn step(s: [u64; 16], k: usize) -> [u64; 16]
+// The step over the group that a round of this way takes as its k-th.
+#[tactic(auto, unfolding(crate::specs::Permutation::groups, crate::specs::Permutation::columns, crate::specs::Permutation::diagonals))]
+fn step<W: Way>(s: [u64; 16], k: usize) -> [u64; 16]
     requires { k < 8 }
-    ensures { result ≡ g_at (slice_index_or groups k []) s }
+    ensures { result ≡ step_at W.quad (slice_index_or groups (W.group k) []) s }
 {
-    let q = GROUPS[k];
-    g_at(s, q[0], q[1], q[2], q[3])
+    g_at::<W>(s, GROUPS[W::group(k)])
 }
 
-// G over group k, undone.
-fn back_step(s: [u64; 16], k: usize) -> [u64; 16]
-    requires { k < 8 }
-    ensures { result ≡ back_g_at (slice_index_or groups k []) s }
+// A round: at Forward the table read forward, the columns and then the diagonals; at Back read backward.
+// Kept: eight calls, since a loop over the table is not unrolled, and takes more than ten times as long.
+#[tactic(auto, unfolding(crate::specs::Way::stepped))]
+pub fn round<W: Way>(s: [u64; 16]) -> [u64; 16]
+    ensures { result ≡ W.round s }
 {
-    let q = GROUPS[k];
-    back_g_at(s, q[0], q[1], q[2], q[3])
-}
-
-// A round: the table read forward, the columns and then the diagonals. Eight calls, since a loop over the table is not unrolled.
-pub fn round(s: [u64; 16]) -> [u64; 16]
-    ensures { result ≡ round_of s }
-{
-    let c0 = step(s, 0);
-    let c1 = step(c0, 1);
-    let c2 = step(c1, 2);
-    let c3 = step(c2, 3);
-    let d0 = step(c3, 4);
-    let d1 = step(d0, 5);
-    let d2 = step(d1, 6);
-    step(d2, 7)
-}
-
-// A round undone: the table read backward, through the same blocks.
-pub fn back_round(s: [u64; 16]) -> [u64; 16]
-    ensures { result ≡ back_round s }
-{
-    let d2 = back_step(s, 7);
-    let d1 = back_step(d2, 6);
-    let d0 = back_step(d1, 5);
-    let c3 = back_step(d0, 4);
-    let c2 = back_step(c3, 3);
-    let c1 = back_step(c2, 2);
-    let c0 = back_step(c1, 1);
-    back_step(c0, 0)
+    let r1 = step::<W>(s, 0);
+    let r2 = step::<W>(r1, 1);
+    let r3 = step::<W>(r2, 2);
+    let r4 = step::<W>(r3, 3);
+    let r5 = step::<W>(r4, 4);
+    let r6 = step::<W>(r5, 5);
+    let r7 = step::<W>(r6, 6);
+    step::<W>(r7, 7)
 }

@@ -3,11 +3,12 @@
 #![tactic(auto)]
 
 pub mod bytes;
+pub mod four_masks;
 pub mod masked;
-pub mod one_mask;
 pub mod spreading;
 
 // Four blocks.
+// Kept: four fields and no array, since each lane has its own line in a turn: f[0][i] is no plainer than f.a[i].
 #[derive(Clone, Copy)]
 pub struct Four {
     pub a: [u64; 16],

@@ -11,56 +11,54 @@ use crate::Four;
 
 // Four lanes, and a sum with the four blocks more in it.
 #[derive(Clone, Copy)]
-pub struct Summed {
+pub struct SummedLanes {
     pub lanes: [u64; 64],
     pub sum: [u64; 16],
 }
 
 // The blocks, word by word into four lanes.
+// Kept: beside spread_masked, since with masks of zeros its clause would speak of blocks xor zero.
 pub fn spread(f: Four) -> [u64; 64]
     ensures { Spread result (nth f) }
 {
     let mut w: [u64; 64] = [0; 64];
-    let mut i: usize = 0;
-    while i < 16 {
+    for i in 0..16 {
         w[4 * i + 0] = f.a[i];
         w[4 * i + 1] = f.b[i];
         w[4 * i + 2] = f.c[i];
         w[4 * i + 3] = f.d[i];
-        i += 1;
     }
     w
 }
 
 // The same, and the blocks into a sum, as long as their words are at hand.
-pub fn spread_summed(sum: [u64; 16], f: Four) -> Summed
+// Kept: beside spread, since the sum is taken in the same loop, and a switch for it is no plainer.
+pub fn spread_summed(sum: [u64; 16], f: Four) -> SummedLanes
     ensures { Spread result.lanes (nth f) × (result.sum ≡ fold (λ m t. xor_block t (nth f m)) sum 4) }
 {
     let mut w: [u64; 64] = [0; 64];
     let mut t: [u64; 16] = [0; 16];
-    let mut i: usize = 0;
-    while i < 16 {
+    for i in 0..16 {
         w[4 * i + 0] = f.a[i];
         w[4 * i + 1] = f.b[i];
         w[4 * i + 2] = f.c[i];
         w[4 * i + 3] = f.d[i];
         t[i] = sum[i] ^ f.a[i] ^ f.b[i] ^ f.c[i] ^ f.d[i];
-        i += 1;
     }
-    Summed { lanes: w, sum: t }
+    SummedLanes { lanes: w, sum: t }
 }
 
 // Word i of lane m, xor that of its mask.
 fn mask_lane_word(w: &mut [u64; 64], masks: &[u64], n: usize, i: usize, m: usize)
-    requires { (length w.old ≡ 64) × ((n + 20 ≤ length masks.now) × ((i < 16) × (m < 4))) }
+    requires { (n + 20 ≤ length masks.now) × ((i < 16) × (m < 4)) }
     ensures { w.new ≡ set w.old (4 * i + m) (bit_xor (get_or w.old (4 * i + m) 0) (get_or masks.now (n + m + i) 0)) }
 {
-    w[4 * i + m] = w[4 * i + m] ^ masks[n + m + i];
+    w[4 * i + m] ^= masks[n + m + i];
 }
 
 // Word i of each lane.
 fn mask_words(w: &mut [u64; 64], masks: &[u64], n: usize, i: usize)
-    requires { (length w.old ≡ 64) × ((n + 20 ≤ length masks.now) × (i < 16)) }
+    requires { (n + 20 ≤ length masks.now) × (i < 16) }
     ensures { MaskedWords masks.now n i 1 w.old w.new }
 {
     mask_lane_word(w, masks, n, i, 0);
@@ -71,7 +69,7 @@ fn mask_words(w: &mut [u64; 64], masks: &[u64], n: usize, i: usize)
 
 // Words i to i + 3 of each lane.
 fn mask_four(w: &mut [u64; 64], masks: &[u64], n: usize, i: usize)
-    requires { (length w.old ≡ 64) × ((n + 20 ≤ length masks.now) × (i + 3 < 16)) }
+    requires { (n + 20 ≤ length masks.now) × (i + 3 < 16) }
     ensures { MaskedWords masks.now n i 4 w.old w.new }
 {
     mask_words(w, masks, n, i);
@@ -80,10 +78,10 @@ fn mask_four(w: &mut [u64; 64], masks: &[u64], n: usize, i: usize)
     mask_words(w, masks, n, i + 3);
 }
 
-// Each lane xor its mask. Calls and no loop: the compiler would vectorise a loop along a lane, and not
-// across the four.
+// Each lane xor its mask.
+// Kept: calls and no loop, which the compiler would vectorise along a lane, and not across the four.
 pub fn mask_lanes(w: &mut [u64; 64], masks: &[u64], n: usize)
-    requires { (length w.old ≡ 64) × (n + 20 ≤ length masks.now) }
+    requires { n + 20 ≤ length masks.now }
     ensures { Masked (λ m. mask_from 0 masks.now (n + m)) w.old w.new }
 {
     mask_four(w, masks, n, 0);

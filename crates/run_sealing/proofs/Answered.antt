@@ -8,9 +8,9 @@ use lib.Dec.{lit<}
 use lib.ListN.{length, take, drop}
 use lib.Seq.{take_at}
 use Rattle.words.specs.Block.{Block}
-use Rattle.answers.specs.Answers.{value_of}
-use Rattle.answers.specs.declared.Answer.{Answer}
-use Rattle.answers.specs.declared.Answer.TheVariants.{Done, Refused}
+use Rattle.std.specs.Prelude.{Ok, Err}
+use Rattle.answers.specs.Answers.{Answer, value_of}
+use Rattle.answers.specs.Refusals.{refusal}
 use Rattle.answers.specs.declared.Ground.TheVariants.{TagDiffers}
 use Rattle.answers.proofs.Values.{checked-lt}
 use Rattle.masks.specs.Run.{grown, IsRun}
@@ -50,10 +50,10 @@ abbrev pub beside : List ℕ → Answer × List ℕ → Answer × (List ℕ × L
 beside words r = (r.0, (r.1, words))
 
 module _ (n : ℕ) {right : Bool} {out : List ℕ} (words : List ℕ) {o : Bool × List ℕ} (e : (right, out) ≡ o) where
-  pub done-beside : right ≡ true → beside words (Done n, out) ≡ beside words (verdict n o)
+  pub done-beside : right ≡ true → beside words (Ok n, out) ≡ beside words (verdict n o)
   done-beside q = ap (beside words) (done-where n e q)
 
-  pub nine-beside : right ≡ false → beside words (Refused TagDiffers 0, out) ≡ beside words (verdict n o)
+  pub nine-beside : right ≡ false → beside words (Err (refusal TagDiffers 0), out) ≡ beside words (verdict n o)
   nine-beside q = ap (beside words) (nine-where n e q)
 
 -- ---- the answer is small

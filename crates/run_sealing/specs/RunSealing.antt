@@ -1,8 +1,6 @@
 -- Seal and open from a run of words in a lent buffer (document 02, card 6). Assumes nothing.
-use Rattle.std.specs.Prelude.{List, ◌++◌, ℕ, ◌+◌, ◌-◌, length, drop}
-use Rattle.answers.specs.Answers.{checked}
-use Rattle.answers.specs.declared.Answer.{Answer}
-use Rattle.answers.specs.declared.Answer.TheVariants.{Done}
+use Rattle.std.specs.Prelude.{List, Ok, ◌++◌, ℕ, ◌+◌, ◌-◌, length, drop}
+use Rattle.answers.specs.Answers.{Answer, checked}
 use Rattle.masks.specs.Run.{grown}
 use Rattle.mem.specs.Mem.{start_of}
 use Rattle.blockplan.specs.Parcel.{parcel_of, opened}
@@ -19,7 +17,7 @@ module _ (mode rounds : ℕ) (key nonce header : List ℕ) where
   unfoldable pub seal_run_call : List ℕ → List ℕ → List ℕ → Answer × (List ℕ × List ℕ)
   seal_run_call message out words =
       checked (seal_run_checks mode rounds (length key) (length nonce) (length header) (length message) (length out) (length words)) (out, words) (
-        Done (length message + 32),
+        Ok (length message + 32),
         (
           parcel_of (mode_of mode rounds (start_of rounds key nonce)) header message ++ drop (length message + 32) out,
           run_in (start_of rounds key nonce) (run_length (length header) (length message)) words,

@@ -12,6 +12,9 @@ use Rattle.words.proofs.Blocks.{block-of, xor_block-assoc, xor_block-comm, xor_b
 use Rattle.masks.specs.Steps.{alpha, beta}
 use Rattle.masks.specs.Run.{mask_from, IsRun}
 use Rattle.masks.proofs.Run.{from-alpha, from-beta, from-gamma}
+use Rattle.runs.specs.declared.kinds.Kind.{Kind}
+use Rattle.runs.specs.declared.kinds.Kind.TheVariants.{Alpha, Beta, Gamma}
+use Rattle.runs.specs.Kinds.{neighbours_in, beta_steps, gamma_steps}
 use Rattle.mem.specs.Mem.{mask_at}
 use Rattle.mem.proofs.Laws.{mask-block, mask-alpha, mask-beta}
 
@@ -64,3 +67,33 @@ module _ (w : List ℕ) (is : IsRun w) (b : Block (take 16 w)) (n : ℕ) where
   pub plan-gamma : n + 18 ≤ length w → mask_from 2 w n ≡ mask_at (take 16 w) n 0 1
   unfolding mask_at times
   plan-gamma h = from-gamma w is b n h
+
+  -- a mask of any kind
+  pub plan-kind : (kind : Kind) → n + 18 ≤ length w → mask_from (neighbours_in kind) w n ≡ mask_at (take 16 w) n (beta_steps kind) (gamma_steps kind)
+  plan-kind Alpha h = plan-alpha (omega arith)
+  plan-kind Beta h = plan-beta (omega arith)
+  plan-kind Gamma h = plan-gamma h
+
+-- ---- beta steps on from a mask of any kind
+
+module _ (w : List ℕ) (is : IsRun w) (b : Block (take 16 w)) (n : ℕ) (kind : Kind) where
+  pub kind-on : n + 19 ≤ length w → xor_block (mask_from (neighbours_in kind) w (n + 1)) (mask_from (neighbours_in kind) w n) ≡ mask_at (take 16 w) n (beta_steps kind + 1) (gamma_steps kind)
+  kind-on h =
+      ap₂ xor_block (plan-kind w is b (n + 1) kind (omega arith)) (plan-kind w is b n kind (omega arith))
+      ∙ beta-on (take 16 w) b n (beta_steps kind) (gamma_steps kind)
+      ∙ ap (λ (j : ℕ). mask_at (take 16 w) n j (gamma_steps kind)) (omega arith)
+
+  pub kind-two : n + 20 ≤ length w → xor_block (mask_from (neighbours_in kind) w (n + 2)) (mask_from (neighbours_in kind) w n) ≡ mask_at (take 16 w) n (beta_steps kind + 2) (gamma_steps kind)
+  kind-two h =
+      ap₂ xor_block (plan-kind w is b (n + 2) kind (omega arith)) (plan-kind w is b n kind (omega arith))
+      ∙ beta-two (take 16 w) b n (beta_steps kind) (gamma_steps kind)
+      ∙ ap (λ (j : ℕ). mask_at (take 16 w) n j (gamma_steps kind)) (omega arith)
+
+  pub kind-three : n + 21 ≤ length w
+      → xor_block (xor_block (mask_from (neighbours_in kind) w (n + 2 + 1)) (mask_from (neighbours_in kind) w (n + 2))) (xor_block (mask_from (neighbours_in kind) w (n + 1)) (mask_from (neighbours_in kind) w n))
+      ≡ mask_at (take 16 w) n (beta_steps kind + 3) (gamma_steps kind)
+  kind-three h =
+      ap₂ xor_block (ap₂ xor_block (plan-kind w is b (n + 2 + 1) kind (omega arith)) (plan-kind w is b (n + 2) kind (omega arith)))
+      (ap₂ xor_block (plan-kind w is b (n + 1) kind (omega arith)) (plan-kind w is b n kind (omega arith)))
+      ∙ beta-three (take 16 w) b n (beta_steps kind) (gamma_steps kind)
+      ∙ ap (λ (j : ℕ). mask_at (take 16 w) n j (gamma_steps kind)) (omega arith)

@@ -9,14 +9,11 @@ fn put_first(start: [u64; 16], run: &mut [u64])
     requires { 16 ≤ length run.old }
     ensures { run.new ≡ start ++ drop 16 run.old }
 {
-    let mut i: usize = 0;
-    while i < 16 {
-        run[i] = start[i];
-        i += 1;
-    }
+    run[..16].copy_from_slice(&start);
 }
 
 // Word n + 16, from the words before it.
+#[tactic(auto, unfolding(masks::specs::Run::next_word, masks::specs::Steps::alpha_w))]
 fn next_word(run: &[u64], n: usize) -> u64
     requires { n + 5 < length run.now }
     ensures { result ≡ next_word run.now n }
@@ -31,11 +28,9 @@ pub fn grow(start: [u64; 16], more: usize, run: &mut [u64])
     ensures { run.new ≡ grown start more ++ drop (16 + more) run.old }
 {
     put_first(start, run);
-    let mut n: usize = 0;
-    while n < more {
+    for n in 0..more {
         let at = n + 16;
         let w = next_word(run, n);
         run[at] = w;
-        n += 1;
     }
 }

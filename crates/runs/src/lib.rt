@@ -3,4 +3,6 @@
 #![tactic(auto)]
 
 pub mod growing;
+pub mod kinds;
+pub mod run;
 pub mod windows;

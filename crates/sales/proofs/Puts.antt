@@ -1,8 +1,7 @@
 -- Bytes written from the front on: the low bytes of a number one by one, and parts one behind the other. Assumes nothing.
-use mathlib.Core.List.{List, [], ◌∷◌, ◌++◌, append_assoc, append-nil}
+use mathlib.Core.List.{List, [], ◌∷◌, ◌++◌, append_assoc}
 use mathlib.Core.Path.{◌≡◌, refl, sym, ap, ◌∙◌}
-use Prim.Native.Nat.{ℕ, suc, ◌+◌, ◌/◌, ◌%◌, ◌≤◌, ◌<◌}
-use native.Mathlib.Nat.{zero-add, add-zero}
+use Prim.Native.Nat.{ℕ, ◌+◌, ◌/◌, ◌%◌, ◌≤◌, ◌<◌}
 use native.Mathlib.Numerals.{add-one}
 use native.Mathlib.Omega.{arith}
 use lib.ListN.{length, take, drop, set, length-append, length-set, length-take, length-drop}
@@ -13,33 +12,17 @@ use Rattle.words.proofs.Blocks.{length-low_bytes}
 
 -- ---- low bytes
 
--- the first i bytes of n are those of w, and the next ones will be those of the rest
-pub record Lowering (w n : ℕ) (out : List ℕ) (rest i : ℕ) : Type 0 where
-  pub most : i ≤ n
-  pub long : length out ≡ n
-  pub low : (k : ℕ) → take i out ++ low_bytes k rest ≡ low_bytes (i + k) w
+-- of a number of two, and of four bytes
+pub low-two : (w : ℕ) → w % 256 ∷ (w / 256 % 256 ∷ []) ≡ low_bytes 2 w
+unfolding low_bytes
+low-two w = refl
 
-module _ {w n : ℕ} where
-  pub lowering-none : (out : List ℕ) → length out ≡ n → Lowering w n out w 0
-  lowering-none out e = record { most = omega arith; long = e; low = λ k. rw zero-add }
-
-  module _ {out : List ℕ} {rest i : ℕ} (here : Lowering w n out rest i) where
-    pub lowering-more : i < n → Lowering w n (set out i (rest % 256)) (rest / 256) (i + 1)
-    unfolding low_bytes
-    lowering-more h = record {
-      most = omega arith;
-      long = length-set out i (rest % 256) ∙ here.long;
-      low = λ k.
-          let e : i + suc k ≡ i + 1 + k = omega arith in
-          rw (← e, add-one, take-suc-set out i (rest % 256) (omega (arith, here.long)))
-          (append_assoc (take i out) (rest % 256 ∷ []) (low_bytes k (rest / 256)) ∙ here.low (suc k));
-    }
-
-    pub lowering-done : n ≤ i → out ≡ low_bytes n w
-    unfolding low_bytes
-    lowering-done h =
-        let e : i ≡ n = omega (arith, here.most) in
-        sym (take_all i out (omega (arith, here.long))) ∙ sym (append-nil (take i out)) ∙ here.low 0 ∙ rw (e, add-zero)
+pub low-four : (w : ℕ) → w % 256 ∷ (w / 256 % 256 ∷ (w / 65536 % 256 ∷ (w / 16777216 % 256 ∷ []))) ≡ low_bytes 4 w
+unfolding low_bytes
+low-four w =
+    let a : w / 65536 ≡ w / 256 / 256 = omega arith in
+    let b : w / 16777216 ≡ w / 256 / 256 / 256 = omega arith in
+    rw (a, b)
 
 -- ---- parts
 
@@ -69,10 +52,22 @@ module _ {m : ℕ} where
               ∙ take_at (take a xs ++ new) (drop n (drop a xs)) (a + n) both ∙ ap (λ (l : List ℕ). l ++ new) here.front;
         })
 
-    -- as a number's low bytes
-    pub begins-low : (n w : ℕ) (ys : List ℕ) → a + n ≤ m → ys ≡ low_bytes (length (take n (drop a xs))) w
-        → Begins m (a + n) (before ++ low_bytes n w) (put_mid a n xs ys)
-    begins-low n w ys h e = begins-more n (low_bytes n w) ys h (length-low_bytes n w) (e ∙ ap (λ (k : ℕ). low_bytes k w) (part-long n h))
+    -- the next byte
+    pub begins-byte : (v : ℕ) → a < m → v < 256 → Begins m (a + 1) (before ++ low_bytes 1 v) (set xs a v)
+    unfolding low_bytes
+    begins-byte v h f =
+        let m : v % 256 ≡ v = omega arith in
+        record {
+          long = length-set xs a v ∙ here.long;
+          front = rw (add-one, take-suc-set xs a v (omega (arith, here.long)), here.front, m);
+        }
+
+    -- two or four bytes of a number
+    pub begins-two : (w : ℕ) (ys : List ℕ) → a + 2 ≤ m → ys ≡ w % 256 ∷ (w / 256 % 256 ∷ []) → Begins m (a + 2) (before ++ low_bytes 2 w) (put_mid a 2 xs ys)
+    begins-two w ys h e = begins-more 2 (low_bytes 2 w) ys h (length-low_bytes 2 w) (e ∙ low-two w)
+
+    pub begins-four : (w : ℕ) (ys : List ℕ) → a + 4 ≤ m → ys ≡ w % 256 ∷ (w / 256 % 256 ∷ (w / 65536 % 256 ∷ (w / 16777216 % 256 ∷ []))) → Begins m (a + 4) (before ++ low_bytes 4 w) (put_mid a 4 xs ys)
+    begins-four w ys h e = begins-more 4 (low_bytes 4 w) ys h (length-low_bytes 4 w) (e ∙ low-four w)
 
     pub begins-all : m ≤ a → xs ≡ before
     begins-all h = sym (take_all a xs (omega (arith, here.long))) ∙ here.front

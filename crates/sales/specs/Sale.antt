@@ -1,6 +1,5 @@
 -- A sale: its nonce, its record, and the 61 bytes in which the store holds them sealed (document 02, cards 1 and 8). Assumes nothing.
-use Rattle.std.specs.Prelude.{◌≡◌, Bool, cond, List, [], ◌++◌, ℕ, ◌^◌, ◌<◌, eqb, length, take, drop}
-use Rattle.words.specs.Sequence.{zeros}
+use Rattle.std.specs.Prelude.{◌≡◌, Bool, cond, List, [], ◌++◌, ℕ, ◌^◌, ◌<◌, eqb, length, take, drop, Option, Some, None}
 use Rattle.words.specs.Block.{Bytes, low_bytes}
 use Rattle.mem.specs.Mem.{start_of}
 use Rattle.blockplan.specs.Parcel.{Mode, parcel_of, message_of, genuine}
@@ -8,7 +7,7 @@ use Rattle.mro.specs.Mro.{mro_mode}
 use Rattle.cells.specs.Numbers.{part, number_at}
 use Rattle.cells.specs.Cells.{priced}
 use Rattle.sales.specs.declared.Sale.{Sale}
-use Rattle.sales.specs.declared.Opened.{Opened}
+use Rattle.sales.specs.declared.Record.{Record}
 
 -- ---- a new sale
 
@@ -100,16 +99,13 @@ cash_of x = cond (eqb x.means 1) x.amount 0
 
 -- ---- what functions promise each other
 
--- the record that they open to, and zeros where they don't open
-unfoldable pub held : List ℕ → List ℕ → List ℕ
-held key body = cond (opens key body) (record_in key body) (zeros 13)
+-- the numbers of a record that calls tell: amount, means, and what stands where kind 2 has the price
+abbrev pub numbers_in : List ℕ → Record
+numbers_in r = record { amount = number_at 4 0 r; means = number_at 1 6 r; price = number_at 4 7 r }
 
--- what opening them gives
-pub record IsOpened (key body : List ℕ) (r : Opened) : Type 0 where
-  pub opens-is : r.opens ≡ opens key body
-  pub amount-is : r.amount ≡ number_at 4 0 (held key body)
-  pub means_is : r.means ≡ number_at 1 6 (held key body)
-  pub price-is : r.price ≡ number_at 4 7 (held key body)
+-- what opening the 61 bytes gives: these numbers, where they open
+unfoldable pub opening : List ℕ → List ℕ → Option Record
+opening key body = cond (opens key body) (Some (numbers_in (record_in key body))) None
 
 -- ---- what the types of a new sale's fields say
 

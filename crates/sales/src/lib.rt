@@ -4,7 +4,7 @@
 #![tactic(auto)]
 
 ghost use Rattle.std.specs.Prelude.{◌≡◌, cond, eqb, length};
-ghost use Rattle.sales.specs.Sale.{body_for, IsOpened};
+ghost use Rattle.sales.specs.Sale.{body_for, opening};
 
 use crate::fields::{put_nonce, put_record};
 use cells::fields::number_at;
@@ -14,6 +14,7 @@ use mro::{open, seal};
 mod fields;
 
 // A new sale: the numbers that name it, the caller's eight bytes of the nonce, and what its record holds.
+// Kept: the two numbers apart and no SaleName, since the definitions speak of `x.machine` and `x.sale`.
 #[derive(Clone, Copy)]
 pub struct Sale {
     pub machine: u32,
@@ -30,52 +31,49 @@ pub struct Sale {
 }
 
 // The 61 bytes: the nonce, and behind it the record sealed with an empty header.
-pub fn write_sale(key: &[u8], of: Sale, out: &mut [u8])
-    requires { (length key.now ≡ 32) × (length out.old ≡ 61) }
+pub fn write_sale(key: &[u8; 32], of: Sale, out: &mut [u8])
+    requires { length out.old ≡ 61 }
     ensures { out.new ≡ body_for key.now of }
 {
     let mut record = [0u8; 13];
     put_record(of, &mut record);
     put_nonce(of, &mut out[0..16]);
     let first = start(false, key, &out[0..16], 6);
-    seal(first, 6, &key[0..0], &record, &mut out[16..]);
+    seal(first, 6, &[], &record, &mut out[16..]);
 }
 
-// Whether 61 bytes open, and what their record holds, in which only a sale of kind 2 has a price; zeros
-// where they don't.
+// What a sale's record holds that calls tell, in which only a sale of kind 2 has a price.
 #[derive(Clone, Copy)]
-pub struct Opened {
-    pub opens: bool,
+pub struct Record {
     pub amount: u32,
     pub means: u8,
     pub price: u32,
 }
 
-// What 61 bytes hold, read from their record, for which the last argument has room.
-fn open_record(key: &[u8], body: &[u8], out: &mut [u8]) -> Opened
-    requires { (length key.now ≡ 32) × ((length body.now ≡ 61) × (length out.old ≡ 13)) }
-    ensures { IsOpened key.now body.now result }
-{
-    let first = start(false, key, &body[0..16], 6);
-    let opens = open(first, 6, &body[0..0], &body[16..], out);
-    let amount = number_at(out, 0);
-    let means = out[6];
-    let price = number_at(out, 7);
-    Opened {
-        opens,
-        amount,
-        means,
-        price,
+impl Record {
+    // The amount where means is coin, and else 0; the amount is secret too.
+    pub fn cash(self) -> u64
+        ensures { result ≡ cond (eqb self.means 1) self.amount 0 }
+    {
+        u64::from(self.amount) * coin(self.means)
     }
 }
 
-// What 61 bytes hold.
-pub fn open_sale(key: &[u8], body: &[u8]) -> Opened
-    requires { (length key.now ≡ 32) × (length body.now ≡ 61) }
-    ensures { IsOpened key.now body.now result }
+// What 61 bytes hold, where they open. Whether they do is no secret, and the one thing that is branched on.
+pub fn open_sale(key: &[u8; 32], body: &[u8]) -> Option<Record>
+    requires { length body.now ≡ 61 }
+    ensures { result ≡ opening key.now body.now }
 {
     let mut record = [0u8; 13];
-    open_record(key, body, &mut record)
+    let first = start(false, key, &body[0..16], 6);
+    if !open(first, 6, &[], &body[16..], &mut record) {
+        return None;
+    }
+    Some(Record {
+        amount: number_at(&record, 0),
+        means: record[6],
+        price: number_at(&record, 7),
+    })
 }
 
 // 1 where means is 1, coin, and else 0. There is no branch, since means is secret.
@@ -83,13 +81,6 @@ fn coin(means: u8) -> u64
     ensures { result ≡ cond (eqb means 1) 1 0 }
 {
     // 0 for 1, and else 1 to 255.
-    let apart = (means as u64 + 255) % 256;
+    let apart = u64::from(means.wrapping_sub(1));
     1 - (apart + 255) / 256
-}
-
-// The amount where means is coin, and else 0; the amount is secret too.
-pub fn cash_of(amount: u32, means: u8) -> u64
-    ensures { result ≡ cond (eqb means 1) amount 0 }
-{
-    amount as u64 * coin(means)
 }

@@ -7,8 +7,9 @@ use native.Mathlib.Omega.{arith}
 use lib.Dec.{lit<}
 use lib.ListN.{length}
 use Rattle.words.proofs.Truth.{pick}
+use Rattle.std.specs.Prelude.{Ok, Err}
 use Rattle.answers.specs.Answers.{value_of}
-use Rattle.answers.specs.declared.Answer.TheVariants.{Done, Refused}
+use Rattle.answers.specs.Refusals.{refusal}
 use Rattle.answers.specs.declared.Ground.TheVariants.{TagDiffers}
 use Rattle.answers.proofs.Values.{checked-lt}
 use Rattle.checks.proofs.Clears.{seal-clear, seal-place, open-clear, open-place}
@@ -17,19 +18,19 @@ use Rattle.sealing.specs.Sealing.{verdict, seal_from, open_from}
 -- ---- the verdict
 
 module _ (n : ℕ) {right : Bool} {out : List ℕ} {o : Bool × List ℕ} (e : (right, out) ≡ o) where
-  pub done-where : right ≡ true → (Done n, out) ≡ verdict n o
+  pub done-where : right ≡ true → (Ok n, out) ≡ verdict n o
   unfolding verdict
-  done-where q = sym (ap (λ (b : Bool). (cond b (Done n) (Refused TagDiffers 0), out)) q) ∙ ap (verdict n) e
+  done-where q = sym (ap (λ (b : Bool). (cond b (Ok n) (Err (refusal TagDiffers 0)), out)) q) ∙ ap (verdict n) e
 
-  pub nine-where : right ≡ false → (Refused TagDiffers 0, out) ≡ verdict n o
+  pub nine-where : right ≡ false → (Err (refusal TagDiffers 0), out) ≡ verdict n o
   unfolding verdict
-  nine-where q = sym (ap (λ (b : Bool). (cond b (Done n) (Refused TagDiffers 0), out)) q) ∙ ap (verdict n) e
+  nine-where q = sym (ap (λ (b : Bool). (cond b (Ok n) (Err (refusal TagDiffers 0)), out)) q) ∙ ap (verdict n) e
 
 -- ---- the answer is small
 
 pub verdict-lt : (n k : ℕ) (r : Bool × List ℕ) → k < n → 0 < n → value_of (verdict k r).0 < n
 unfolding verdict
-verdict-lt n k r h g = pick (λ a. value_of a < n) r.0 (Done k) (Refused TagDiffers 0) h g
+verdict-lt n k r h g = pick (λ a. value_of a < n) r.0 (Ok k) (Err (refusal TagDiffers 0)) h g
 
 module _ (start : ℕ → List ℕ → List ℕ → List ℕ) (mode rounds : ℕ) (key nonce header input out : List ℕ) where
   pub seal-small : value_of (seal_from start mode rounds key nonce header input out).0 < 2 ^ 32

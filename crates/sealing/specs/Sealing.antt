@@ -1,9 +1,8 @@
 -- Seal and open (document 01, "Entry points and where each call is checked"; document 02, card 4, for their starts). Assumes nothing.
-use Rattle.std.specs.Prelude.{Bool, cond, List, ◌++◌, ℕ, ◌+◌, ◌-◌, length, drop}
-use Rattle.answers.specs.Answers.{checked}
+use Rattle.std.specs.Prelude.{Bool, cond, Ok, Err, List, ◌++◌, ℕ, ◌+◌, ◌-◌, length, drop}
+use Rattle.answers.specs.Answers.{Answer, checked}
+use Rattle.answers.specs.Refusals.{refusal}
 use Rattle.answers.specs.declared.Ground.TheVariants.{TagDiffers}
-use Rattle.answers.specs.declared.Answer.{Answer}
-use Rattle.answers.specs.declared.Answer.TheVariants.{Done, Refused}
 use Rattle.mem.specs.Mem.{start_of, old_start_of}
 use Rattle.blockplan.specs.Parcel.{parcel_of, opened}
 use Rattle.checks.specs.Checks.{seal_checks, open_checks}
@@ -11,7 +10,7 @@ use Rattle.modes.specs.Modes.{mode_of}
 
 -- success where the parcel is genuine, refusal 9 where a byte of its tag differs
 unfoldable pub verdict : ℕ → Bool × List ℕ → Answer × List ℕ
-verdict n r = (cond r.0 (Done n) (Refused TagDiffers 0), r.1)
+verdict n r = (cond r.0 (Ok n) (Err (refusal TagDiffers 0)), r.1)
 
 -- the calls, for a start that is made of the round count, the key and the nonce
 module _ (start : ℕ → List ℕ → List ℕ → List ℕ) (mode rounds : ℕ) (key nonce header : List ℕ) where
@@ -19,7 +18,7 @@ module _ (start : ℕ → List ℕ → List ℕ → List ℕ) (mode rounds : ℕ
   unfoldable pub seal_from : List ℕ → List ℕ → Answer × List ℕ
   seal_from message out =
       checked (seal_checks mode rounds (length key) (length nonce) (length header) (length message) (length out)) out (
-        Done (length message + 32),
+        Ok (length message + 32),
         parcel_of (mode_of mode rounds (start rounds key nonce)) header message ++ drop (length message + 32) out,
       )
 

@@ -6,104 +6,50 @@ ghost use Rattle.std.specs.Prelude.{◌≡◌};
 ghost use Rattle.sealing.specs.Sealing.{seal_call, open_call, open_old_call, open_from};
 ghost use Rattle.mem.specs.Mem.{start_for};
 
-use answers::{Answer, Check, Ground};
-use checks::{Lengths, check_open, check_seal};
+use answers::{Answer, Ground, Refusal};
+use checks::Terms;
 use mem::start::start;
 
 // The parcel of a message.
-pub fn seal(
-    mode: u32,
-    rounds: u32,
-    key: &[u8],
-    nonce: &[u8],
-    header: &[u8],
-    message: &[u8],
-    out: &mut [u8],
-) -> Answer
-    ensures { (result, out.new) ≡ seal_call mode rounds key.now nonce.now header.now message.now out.old }
+pub fn seal(of: &Terms<'_>, message: &[u8], out: &mut [u8]) -> Answer
+    ensures { (result, out.new) ≡ seal_call of.now.mode of.now.rounds of.now.key.now of.now.nonce.now of.now.header.now message.now out.old }
 {
     let n = message.len();
-    let lengths = Lengths {
-        key: key.len(),
-        nonce: nonce.len(),
-        header: header.len(),
-        input: n,
-    };
-    let found = check_seal(mode, rounds, lengths, out.len());
-    if let Check::Fails(ground, place) = found {
-        return Answer::Refused(ground, place);
-    }
+    of.request(n).check_seal(out.len())?;
     let written = n + 32;
-    modes::seal(
-        start(false, key, nonce, rounds),
-        mode,
-        rounds,
-        header,
-        message,
-        out,
-    );
-    Answer::Done(written as u64)
+    let first = start(false, of.key, of.nonce, of.rounds);
+    modes::seal(first, of.mode, of.rounds, of.header, message, out);
+    Ok(written as u64)
 }
 
 // The message of a parcel that is genuine under the start asked for.
-fn open_from(
-    old: bool,
-    mode: u32,
-    rounds: u32,
-    key: &[u8],
-    nonce: &[u8],
-    header: &[u8],
-    parcel: &[u8],
-    out: &mut [u8],
-) -> Answer
-    ensures { (result, out.new) ≡ open_from (start_for old) mode rounds key.now nonce.now header.now parcel.now out.old }
+fn open_from(old: bool, of: &Terms<'_>, parcel: &[u8], out: &mut [u8]) -> Answer
+    ensures { (result, out.new) ≡ open_from (start_for old) of.now.mode of.now.rounds of.now.key.now of.now.nonce.now of.now.header.now parcel.now out.old }
 {
     let n = parcel.len();
-    let lengths = Lengths {
-        key: key.len(),
-        nonce: nonce.len(),
-        header: header.len(),
-        input: n,
-    };
-    let found = check_open(mode, rounds, lengths, out.len());
-    if let Check::Fails(ground, place) = found {
-        return Answer::Refused(ground, place);
-    }
+    of.request(n).check_open(out.len())?;
     let written = n - 32;
-    let first = start(old, key, nonce, rounds);
-    if modes::open(first, mode, rounds, header, parcel, out) {
-        Answer::Done(written as u64)
+    let first = start(old, of.key, of.nonce, of.rounds);
+    // Made before the tag is compared: a call in the arm would be compiled to a branch on the tag.
+    let differs = Refusal::from(Ground::TagDiffers);
+    if modes::open(first, of.mode, of.rounds, of.header, parcel, out) {
+        Ok(written as u64)
     } else {
-        Answer::Refused(Ground::TagDiffers, 0)
+        Err(differs)
     }
 }
 
 // The message of a genuine parcel.
-pub fn open(
-    mode: u32,
-    rounds: u32,
-    key: &[u8],
-    nonce: &[u8],
-    header: &[u8],
-    parcel: &[u8],
-    out: &mut [u8],
-) -> Answer
-    ensures { (result, out.new) ≡ open_call mode rounds key.now nonce.now header.now parcel.now out.old }
+// Kept: open and open_old are two calls of C, and both are open_from, which takes the start.
+pub fn open(of: &Terms<'_>, parcel: &[u8], out: &mut [u8]) -> Answer
+    ensures { (result, out.new) ≡ open_call of.now.mode of.now.rounds of.now.key.now of.now.nonce.now of.now.header.now parcel.now out.old }
 {
-    open_from(false, mode, rounds, key, nonce, header, parcel, out)
+    open_from(false, of, parcel, out)
 }
 
 // The message of a parcel that was sealed under the old start; nothing seals under it any more.
-pub fn open_old(
-    mode: u32,
-    rounds: u32,
-    key: &[u8],
-    nonce: &[u8],
-    header: &[u8],
-    parcel: &[u8],
-    out: &mut [u8],
-) -> Answer
-    ensures { (result, out.new) ≡ open_old_call mode rounds key.now nonce.now header.now parcel.now out.old }
+pub fn open_old(of: &Terms<'_>, parcel: &[u8], out: &mut [u8]) -> Answer
+    ensures { (result, out.new) ≡ open_old_call of.now.mode of.now.rounds of.now.key.now of.now.nonce.now of.now.header.now parcel.now out.old }
 {
-    open_from(true, mode, rounds, key, nonce, header, parcel, out)
+    open_from(true, of, parcel, out)
 }

@@ -1,5 +1,5 @@
 -- What was found by a sale's numbers. Assumes nothing.
-use mathlib.Core.Path.{◌≡◌, refl, sym, ap, ◌∙◌}
+use mathlib.Core.Path.{◌≡◌, refl, ap}
 use mathlib.Core.Bool.{Bool, true, false, cond}
 use mathlib.Core.Logic.{inl, inr}
 use mathlib.Core.List.{List}
@@ -10,46 +10,35 @@ use Rattle.cells.specs.Cells.{cells, first_free, next_of, sales, free, formed, n
 use Rattle.cells.proofs.Chains.{first-in, holder_in}
 use Rattle.cells.proofs.Form.{form_of, in-cases, start-in}
 use Rattle.chains.specs.declared.Found.{Found}
-use Rattle.chains.specs.declared.Found.TheVariants.{Nowhere, At}
-use Rattle.chains.specs.Found.{found_of}
+use Rattle.std.specs.Prelude.{Option, Some, None, is_some}
+use Rattle.chains.specs.Found.{stands_at, found_of}
 
-abbrev is_there : Found → Bool
-is_there Nowhere = false
-is_there (At before c) = true
-
-abbrev cell_in : Found → ℕ
-cell_in Nowhere = 0
-cell_in (At before c) = c
-
-abbrev before_in : Found → ℕ
-before_in Nowhere = 0
-before_in (At before c) = before
+-- what was found, where something was
+abbrev shown : Found → Option Found → Found
+shown other (Some f) = f
+shown other None = other
 
 module _ (machine sale : ℕ) (s : List ℕ) where
-  there-is : is_there (found_of machine sale s) ≡ present machine sale s
+  pub found-some : (f : Found) → Some f ≡ found_of machine sale s → (present machine sale s ≡ true) × (f ≡ stands_at machine sale s)
   unfolding found_of
-  there-is = go (present machine sale s)
-    where
-      go : (t : Bool) → is_there (cond t (At (cell_before machine sale s) (cell_named machine sale s)) Nowhere) ≡ t
-      go true = refl
-      go false = refl
+  found-some f h = go (present machine sale s) h where
+    go : (t : Bool) → ◌≡◌ {A = Option Found} (Some f) (cond t (Some (stands_at machine sale s)) None) → (t ≡ true) × (f ≡ stands_at machine sale s)
+    go true e = (refl, ap (λ (o : Option Found). shown f o) e)
+    go false e = absurd (let z : ◌≡◌ {A = ℕ} 0 1 = cc in omega arith)
 
-  pub found-absent : {f : Found} → f ≡ found_of machine sale s → f ≡ Nowhere → present machine sale s ≡ false
-  found-absent e q = sym there-is ∙ ap is_there (sym e ∙ q)
+  pub found-none : None ≡ found_of machine sale s → present machine sale s ≡ false
+  unfolding found_of
+  found-none h = go (present machine sale s) h where
+    go : (t : Bool) → ◌≡◌ {A = Option Found} None (cond t (Some (stands_at machine sale s)) None) → t ≡ false
+    go true e = absurd (let z : ◌≡◌ {A = ℕ} 0 1 = cc in omega arith)
+    go false e = refl
 
-  module _ {f : Found} {b c : ℕ} (e : f ≡ found_of machine sale s) (q : f ≡ At b c) where
-    pub found-present : present machine sale s ≡ true
-    found-present = sym there-is ∙ ap is_there (sym e ∙ q)
-
-    found-is : At b c ≡ At (cell_before machine sale s) (cell_named machine sale s)
-    unfolding found_of
-    found-is = sym q ∙ e ∙ rw found-present
-
-    pub found-cell : c ≡ cell_named machine sale s
-    found-cell = ap cell_in found-is
-
-    pub found_before : b ≡ cell_before machine sale s
-    found_before = ap before_in found-is
+  pub found-is_some : is_some (found_of machine sale s) ≡ present machine sale s
+  unfolding found_of
+  found-is_some = go (present machine sale s) where
+    go : (t : Bool) → is_some {T = Found} (cond t (Some (stands_at machine sale s)) None) ≡ t
+    go true = refl
+    go false = refl
 
   -- both cells are the store's
   pub cell-inside : formed s ≡ true → present machine sale s ≡ true → cell_named machine sale s < cells s

@@ -1,7 +1,7 @@
 -- Laws of bytes that a mask keeps or clears, and of the mask made from the bits that differ. Assumes nothing.
 use mathlib.Core.Path.{◌≡◌, refl, sym, ap, ◌∙◌}
 use mathlib.Core.Bool.{Bool, true, false, cond}
-use mathlib.Core.List.{List, ◌++◌}
+use mathlib.Core.List.{List, ◌++◌, append-nil}
 use Prim.Native.Nat.{ℕ, ◌+◌, ◌*◌, ◌-◌, ◌/◌, ◌%◌, ◌^◌, ◌≤◌, ◌<◌}
 use native.Mathlib.Nat.{mod-lt, mod-eq_of_lt, zero-mul, zero-div}
 use native.Mathlib.Omega.{arith}
@@ -10,7 +10,8 @@ use lib.Dec.{eqb, lit<}
 use lib.Pow.{pow_pos, high, mod-pow-add}
 use lib.Bits.{bit_or, bit_and, and_mask, and_zero_r, and_le_l, and_le_r, or_add_and, or_mod}
 use borrow.Author.Tests.{eq-eqb, ne_eqb}
-use lib.ListN.{length, get_or, drop, take-append-drop}
+use lib.ListN.{length, get_or, take, drop, take-append-drop, drop_of_length-le}
+use lib.Seq.{length-take-le}
 use Rattle.words.specs.Sequence.{tab, zeros}
 use Rattle.words.proofs.Xor.{Digit, off, on, digit}
 use Rattle.words.proofs.Lists.{front}
@@ -77,7 +78,18 @@ mask_is d h =
     let n = or_up 1 (or_up 2 (or_up 4 (or_up 8 (or_up 16 (or_up 32 d))))) % 2 in
     from-bit n (digit n (mod-lt _ (lit< tt))) ∙ ap (λ (t : Bool). cond t 255 0) (lowest d h)
 
-pub kept : (right : Bool) (n : ℕ) (s : List ℕ) → n ≤ length s → tab (kept_at right s) n ++ drop n s ≡ cond right s (zeros n ++ drop n s)
+-- a list masked from its first byte to its last
+kept-all : (right : Bool) (s : List ℕ) (n : ℕ) → n ≡ length s → tab (kept_at right s) n ++ drop n s ≡ cond right s (zeros n)
 unfolding kept_at zeros
-kept true n s h = ap (λ (l : List ℕ). l ++ drop n s) (sym (front s n h)) ∙ take-append-drop n s
-kept false n s h = refl
+kept-all true s n e = ap (λ (l : List ℕ). l ++ drop n s) (sym (front s n (omega arith))) ∙ take-append-drop n s
+kept-all false s n e = rw (drop_of_length-le s {i = n} (omega arith), append-nil)
+
+-- the first n bytes of a list masked so, and what follows them
+pub kept : (right : Bool) (n : ℕ) (s xs : List ℕ) (i : ℕ) → n ≤ length s → i ≡ n → xs ≡ tab (kept_at right (take n s)) i ++ drop i (take n s)
+    → xs ++ drop n s ≡ cond right s (zeros n ++ drop n s)
+kept right n s xs i h far e =
+    ap (λ (l : List ℕ). l ++ drop n s) (e ∙ rw far (kept-all right (take n s) n (sym (length-take-le n s h)))) ∙ joined right
+  where
+    joined : (right : Bool) → cond right (take n s) (zeros n) ++ drop n s ≡ cond right s (zeros n ++ drop n s)
+    joined true = take-append-drop n s
+    joined false = refl

@@ -16,11 +16,9 @@ pub fn store_tag(b: [u64; 16], out: &mut [u8])
     requires { 32 ≤ length out.old }
     ensures { out.new ≡ tag_bytes b ++ drop 32 out.old }
 {
-    let mut i: usize = 0;
-    while i < 4 {
+    for i in 0..4 {
         let at = 8 * i;
         store_word(b[i], &mut out[at..]);
-        i += 1;
     }
 }
 
@@ -31,11 +29,9 @@ fn difference(b: [u64; 16], tag: &[u8]) -> u64
     ensures { result ≡ differing b (block_of tag.now) 4 }
 {
     let mut differ: u64 = 0;
-    let mut i: usize = 0;
-    while i < 4 {
+    for i in 0..4 {
         let at = 8 * i;
-        differ = differ | (b[i] ^ load_word(&tag[at..]));
-        i += 1;
+        differ |= b[i] ^ load_word(&tag[at..]);
     }
     differ
 }
@@ -61,10 +57,8 @@ fn keep(out: &mut [u8], n: usize, differ: u64)
     ensures { out.new ≡ cond (eqb differ 0) out.old (zeros n ++ drop n out.old) }
 {
     let mask = mask_of(differ);
-    let mut i: usize = 0;
-    while i < n {
-        out[i] = out[i] & mask;
-        i += 1;
+    for x in out[..n].iter_mut() {
+        *x &= mask;
     }
 }
 

@@ -8,8 +8,10 @@ pub mod steps;
 ghost use Rattle.std.specs.Prelude.{◌≡◌};
 ghost use Rattle.walking.specs.Walking.{walk_checks, jump_checks, walk_call, jump_call};
 
-use answers::{Answer, Check, Ground, room};
+use answers::{Answer, Check, Ground, Refusal, room};
+use back_steps::back;
 use counts::{all_in_range, take_net};
+use masks::steps as forward;
 use steps::{first_bad, take_all};
 use words::block::{load, store};
 
@@ -17,18 +19,19 @@ use words::block::{load, store};
 const MOST_STEPS: usize = 4096;
 
 // Walk's checks.
+#[tactic(auto, unfolding(crate::specs::Walking::walk_checks, answers::specs::Answers::line, answers::specs::Answers::line_at))]
 fn check_walk(start: usize, list: &[u8], out: usize) -> Check
     ensures { result ≡ walk_checks start list.now out }
 {
     if start != 128 {
-        return Check::Fails(Ground::StartLength, 0);
+        return Err(Refusal::from(Ground::StartLength));
     }
     if list.len() > MOST_STEPS {
-        return Check::Fails(Ground::ListLength, 0);
+        return Err(Refusal::from(Ground::ListLength));
     }
     let at = first_bad(list);
     if at < list.len() {
-        return Check::Fails(Ground::StepByte, at as u64);
+        return Err(Ground::StepByte.at(at as u64));
     }
     room(128, out)
 }
@@ -37,24 +40,22 @@ fn check_walk(start: usize, list: &[u8], out: usize) -> Check
 pub fn walk(start: &[u8], list: &[u8], out: &mut [u8]) -> Answer
     ensures { (result, out.new) ≡ walk_call start.now list.now out.old }
 {
-    let found = check_walk(start.len(), list, out.len());
-    if let Check::Fails(ground, place) = found {
-        return Answer::Refused(ground, place);
-    }
+    check_walk(start.len(), list, out.len())?;
     let end = take_all(load(start), list);
     store(end, out);
-    Answer::Done(128)
+    Ok(128)
 }
 
 // Jump's checks.
+#[tactic(auto, unfolding(crate::specs::Walking::jump_checks, answers::specs::Answers::line, answers::specs::Answers::line_at))]
 fn check_jump(start: usize, alpha: i32, beta: i32, gamma: i32, out: usize) -> Check
     ensures { result ≡ jump_checks start alpha beta gamma out }
 {
     if start != 128 {
-        return Check::Fails(Ground::StartLength, 0);
+        return Err(Refusal::from(Ground::StartLength));
     }
     if !all_in_range(alpha, beta, gamma) {
-        return Check::Fails(Ground::NetCount, 0);
+        return Err(Refusal::from(Ground::NetCount));
     }
     room(128, out)
 }
@@ -63,13 +64,10 @@ fn check_jump(start: usize, alpha: i32, beta: i32, gamma: i32, out: usize) -> Ch
 pub fn jump(start: &[u8], alpha: i32, beta: i32, gamma: i32, out: &mut [u8]) -> Answer
     ensures { (result, out.new) ≡ jump_call start.now alpha beta gamma out.old }
 {
-    let found = check_jump(start.len(), alpha, beta, gamma, out.len());
-    if let Check::Fails(ground, place) = found {
-        return Answer::Refused(ground, place);
-    }
-    let one = take_net(load(start), 1, alpha);
-    let two = take_net(one, 2, beta);
-    let three = take_net(two, 3, gamma);
+    check_jump(start.len(), alpha, beta, gamma, out.len())?;
+    let one = take_net(load(start), forward::alpha, back::back_alpha, alpha);
+    let two = take_net(one, forward::beta, back::back_beta, beta);
+    let three = take_net(two, forward::gamma, back::back_gamma, gamma);
     store(three, out);
-    Answer::Done(128)
+    Ok(128)
 }

@@ -1,5 +1,5 @@
--- Where a loop stands: a list filled from the front, pieces written one after the other, and a map taken in each turn. For each
--- the start, one more turn and the end. Assumes nothing.
+-- Where a loop stands: a list filled from the front, and pieces written one after the other. For each the start, one more turn
+-- and the end. Assumes nothing.
 use mathlib.Core.Path.{◌≡◌, refl, ap, ◌∙◌}
 use mathlib.Core.List.{List, ◌++◌}
 use Prim.Native.Nat.{ℕ, ◌+◌, ◌-◌, ◌*◌, ◌≤◌, ◌<◌}
@@ -8,8 +8,8 @@ use native.Mathlib.Numerals.{add-one}
 use native.Mathlib.Omega.{arith}
 use lib.ListN.{length, take, drop, set, length-append, length-drop, length-set}
 use borrow.Rule.Slice.PartMut.{put_mid}
-use Rattle.words.specs.Sequence.{tab, cat, times}
-use Rattle.words.proofs.Lists.{stored, filled, length-cat, appended, timesed}
+use Rattle.words.specs.Sequence.{tab, cat}
+use Rattle.words.proofs.Lists.{stored, filled, length-cat, appended}
 
 -- ---- a list of n entries, filled from the front
 
@@ -63,22 +63,3 @@ module _ {f : ℕ → List ℕ} {w n : ℕ} {old : List ℕ} where
 
     pub writing-done : n ≤ i → out ≡ cat f n ++ drop (w * n) old
     writing-done h = let e : i ≡ n = omega arith in rw e at here.text
-
--- ---- a map taken n times
-
--- r is s after f was taken i times
-pub record Taking (f : List ℕ → List ℕ) (n : ℕ) (s r : List ℕ) (i : ℕ) : Type 0 where
-  pub most : i ≤ n
-  pub is : r ≡ times f i s
-
-module _ {f : List ℕ → List ℕ} {n : ℕ} {s : List ℕ} where
-  pub taking-none : Taking f n s s 0
-  unfolding times
-  taking-none = record { most = omega arith; is = refl }
-
-  module _ {r : List ℕ} {i : ℕ} (here : Taking f n s r i) where
-    pub taking-more : {next : List ℕ} → i < n → next ≡ f r → Taking f n s next (i + 1)
-    taking-more {next} h e = record { most = omega arith; is = timesed f s i r next here.is e }
-
-    pub taking-done : n ≤ i → r ≡ times f n s
-    taking-done h = let e : i ≡ n = omega arith in rw e at here.is

@@ -1,14 +1,15 @@
-// One word.
+// One word. The rotations and the shift are the language's own: here they are said in the definitions' words.
 ghost use Rattle.std.specs.Prelude.{◌≡◌, ◌<◌, ◌≤◌, length, drop, ◌++◌};
 ghost use Rattle.words.specs.Word.{rot_r, rot_l, shl};
 ghost use Rattle.words.specs.Block.{word_at, low_bytes};
 
 // x rotated right by n.
+// Kept: beside std's methods, here and below, so that contracts have the definitions' words (docs/PROMISES.md names them).
 pub fn rotate_right(x: u64, n: u32) -> u64
     requires { (0 < n) × (n < 64) }
     ensures { result ≡ rot_r n x }
 {
-    (x >> n) | (x << (64 - n))
+    x.rotate_right(n)
 }
 
 // x rotated left by n.
@@ -16,10 +17,11 @@ pub fn rotate_left(x: u64, n: u32) -> u64
     requires { (0 < n) × (n < 64) }
     ensures { result ≡ rot_l n x }
 {
-    rotate_right(x, 64 - n)
+    x.rotate_left(n)
 }
 
 // x shifted left by n; the top bits are lost.
+#[tactic(auto, unfolding(crate::specs::Word::shl))]
 pub fn shift_left(x: u64, n: u32) -> u64
     requires { n < 64 }
     ensures { result ≡ shl n x }
@@ -27,26 +29,13 @@ pub fn shift_left(x: u64, n: u32) -> u64
     x << n
 }
 
-// A byte as a word.
-fn wide(x: u8) -> u64
-    ensures { (result ≡ x) × (result < 256) }
-{
-    x as u64
-}
-
-// The first eight bytes as a word. One flat sum of products, which compiles to one load.
+// The first eight bytes as a word.
 pub fn load_word(s: &[u8]) -> u64
     requires { 8 ≤ length s.now }
     ensures { result ≡ word_at s.now 0 }
 {
-    wide(s[0])
-        + 0x100 * wide(s[1])
-        + 0x1_0000 * wide(s[2])
-        + 0x100_0000 * wide(s[3])
-        + 0x1_0000_0000 * wide(s[4])
-        + 0x100_0000_0000 * wide(s[5])
-        + 0x1_0000_0000_0000 * wide(s[6])
-        + 0x100_0000_0000_0000 * wide(s[7])
+    // Kept: the bytes one by one, since std's `copy_from_slice` tests at run time whether the two overlap, where this is one move.
+    u64::from_le_bytes([s[0], s[1], s[2], s[3], s[4], s[5], s[6], s[7]])
 }
 
 // The word into the first eight bytes.
@@ -54,12 +43,9 @@ pub fn store_word(w: u64, s: &mut [u8])
     requires { 8 ≤ length s.old }
     ensures { s.new ≡ low_bytes 8 w ++ drop 8 s.old }
 {
-    s[0] = (w % 256) as u8;
-    s[1] = (w / 256 % 256) as u8;
-    s[2] = (w / 256 / 256 % 256) as u8;
-    s[3] = (w / 256 / 256 / 256 % 256) as u8;
-    s[4] = (w / 256 / 256 / 256 / 256 % 256) as u8;
-    s[5] = (w / 256 / 256 / 256 / 256 / 256 % 256) as u8;
-    s[6] = (w / 256 / 256 / 256 / 256 / 256 / 256 % 256) as u8;
-    s[7] = (w / 256 / 256 / 256 / 256 / 256 / 256 / 256 % 256) as u8;
+    let bytes = w.to_le_bytes();
+    // Kept: byte by byte for the same reason; the eight turns are one move.
+    for i in 0..8 {
+        s[i] = bytes[i];
+    }
 }

@@ -3,31 +3,18 @@ use mathlib.Core.Path.{◌≡◌, ap, ap₂, ◌∙◌}
 use mathlib.Core.List.{List, ◌++◌}
 use Prim.Native.Nat.{ℕ, ◌-◌}
 use native.Mathlib.Omega.{arith}
-use lib.ListN.{length, take, drop, length-drop, length-take}
+use lib.ListN.{length, take, drop}
 use lib.Seq.{length-take-le, take_at}
 use Rattle.words.specs.Block.{Bytes}
 use Rattle.words.proofs.Lists.{tail_part}
-use Rattle.words.proofs.Blocks.{bytes_drop}
 use Rattle.blockplan.specs.Plan.{tag_bytes}
 use Rattle.blockplan.specs.Parcel.{message_of, cipher_part, tag_part}
 use Rattle.blockplan.specs.Compare.{verified}
-use Rattle.blockplan.proofs.Tags.{tag-of-block}
+use Rattle.blockplan.proofs.Tags.{tag-of-parcel}
 use Rattle.blockplan.proofs.Parcels.{message-long, opened-is}
 use Rattle.mro.specs.Mro.{mro_tag, mro_mode}
 use Rattle.mro.proofs.Opened.{mro-lawful}
 use Rattle.mro.proofs.open.Goals as goal
-
-pub load_tag-tag-requires : goal.load_tag-tag-requires
-load_tag-tag-requires c = rw tail_part (simp length-drop (omega arith))
-
-pub slice_bounds-xor_stream-end : goal.slice_bounds-xor_stream-end
-slice_bounds-xor_stream-end c = simp length-take (omega arith)
-
-pub xor_stream-requires : goal.xor_stream-requires
-xor_stream-requires c = simp length-take (omega arith)
-
-pub slice_bounds-tag_block-end-2 : goal.slice_bounds-tag_block-end-2
-slice_bounds-tag_block-end-2 c = simp length-take (omega arith)
 
 pub returns : goal.returns
 unfolding mro_mode mro_tag message_of cipher_part tag_part
@@ -40,12 +27,10 @@ returns c =
     let mode = mro_mode a.rounds a.start in
     let law = mro-lawful a.rounds a.start in
     let message = message_of mode parcel in
-    let load = c.load_tag-tag in
     let stream = c.xor_stream in
     let out = stream.new.out in
     let all : Bytes parcel = record { bytes = λ i. (c.type_inv.parcel i).fits } in
-    let exact : length (tag_part parcel) ≡ 32 = simp length-drop (omega arith) in
-    let tag : tag_bytes load.result ≡ tag_part parcel = ap tag_bytes (rw (tail_part n parcel) at load.ensures) ∙ tag-of-block (tag_part parcel) (bytes_drop n parcel all) exact in
+    let tag = tag-of-parcel parcel _ all (omega arith) (rw (tail_part n parcel) at c.load_tag-tag.ensures) in
     let short : length (take n parcel) ≡ n = length-take-le n parcel (omega arith) in
     let streamed : out ≡ message ++ drop n old = rw (tag, short) at stream.ensures in
     let front : take n out ≡ message = ap (take n) streamed ∙ take_at message (drop n old) n (message-long mode law header parcel (omega arith)) in

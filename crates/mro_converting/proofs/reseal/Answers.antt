@@ -1,31 +1,18 @@
 -- The message's ciphertext in front, its tag behind it. Assumes nothing.
-use mathlib.Core.Path.{◌≡◌, ap, ◌∙◌}
+use mathlib.Core.Path.{◌≡◌, ap}
 use Prim.Native.Nat.{◌+◌, ◌-◌}
 use native.Mathlib.Omega.{arith}
-use lib.ListN.{length, length-drop, length-take}
+use lib.ListN.{length}
 use lib.Seq.{length-take-le}
 use Rattle.words.specs.Block.{Bytes}
 use Rattle.words.proofs.Lists.{tail_part}
-use Rattle.words.proofs.Blocks.{bytes_drop}
 use Rattle.blockplan.specs.Plan.{tag_bytes}
 use Rattle.blockplan.specs.Parcel.{message_of, cipher_part, tag_part}
-use Rattle.blockplan.proofs.Tags.{tag-of-block}
+use Rattle.blockplan.proofs.Tags.{tag-of-parcel}
 use Rattle.blockplan.proofs.Parcels.{sealed-as, message-long}
 use Rattle.mro.specs.Mro.{mro_tag, mro_mode}
 use Rattle.mro.proofs.Opened.{mro-lawful}
 use Rattle.mro_converting.proofs.reseal.Goals as goal
-
-pub load_tag-old_tag-requires : goal.load_tag-old_tag-requires
-load_tag-old_tag-requires c = rw tail_part (simp length-drop (omega arith))
-
-pub slice_bounds-xor_streams-end : goal.slice_bounds-xor_streams-end
-slice_bounds-xor_streams-end c = simp length-take (omega arith)
-
-pub xor_streams-requires : goal.xor_streams-requires
-xor_streams-requires c = simp length-take (omega arith)
-
-pub store_tag-requires : goal.store_tag-requires
-store_tag-requires c = rw tail_part (simp length-drop (omega arith))
 
 pub returns : goal.returns
 unfolding mro_mode mro_tag message_of cipher_part tag_part
@@ -37,9 +24,7 @@ returns c =
     let from = mro_mode a.rounds a.from in
     let to = mro_mode a.rounds a.to in
     let all : Bytes parcel = record { bytes = λ i. (c.type_inv.parcel i).fits } in
-    let exact : length (tag_part parcel) ≡ 32 = simp length-drop (omega arith) in
-    let load = c.load_tag-old_tag in
-    let tag : tag_bytes load.result ≡ tag_part parcel = ap tag_bytes (rw (tail_part n parcel) at load.ensures) ∙ tag-of-block (tag_part parcel) (bytes_drop n parcel all) exact in
+    let tag = tag-of-parcel parcel _ all (omega arith) (rw (tail_part n parcel) at c.load_tag-old_tag.ensures) in
     let short : length (cipher_part parcel) ≡ n = length-take-le n parcel (omega arith) in
     let long : length (message_of from parcel) ≡ n = message-long from (mro-lawful a.rounds a.from) header parcel (omega arith) in
     let all-long : n + 32 ≡ length parcel = omega arith in

@@ -25,7 +25,7 @@ slice_bounds-xor_stream-end c = simp length-take (omega arith)
 
 pub xor_stream-requires : goal.xor_stream-requires
 xor_stream-requires c =
-    (c.requires.0, (omega arith, simp length-take (omega arith)))
+    (omega arith, simp length-take (omega arith))
 
 pub slice_bounds-tag_block-end-2 : goal.slice_bounds-tag_block-end-2
 slice_bounds-tag_block-end-2 c = simp length-take (omega arith)
@@ -33,14 +33,14 @@ slice_bounds-tag_block-end-2 c = simp length-take (omega arith)
 pub tag_block-expected-requires : goal.tag_block-expected-requires
 unfolding whole
 tag_block-expected-requires c =
-    (c.requires.0, (omega arith, simp length-take (omega arith)))
+    (omega arith, simp length-take (omega arith))
 
 pub returns : goal.returns
 unfolding mro_mode mro_tag message_of cipher_part tag_part
 returns c =
     let a = c.args in
     let parcel = a.parcel.now in
-    let most = c.requires.1.1.1.0 in
+    let most = c.requires.1.1.0 in
     let header = a.header.now in
     let old = a.out.now in
     let n = length parcel - 32 in

@@ -1,9 +1,9 @@
 -- The message, and behind it what was there; kept or cleared by the tag. Assumes nothing.
-use mathlib.Core.Path.{◌≡◌, sym}
+use mathlib.Core.Path.{◌≡◌}
 use mathlib.Core.Bool.{true}
 use Prim.Native.Nat.{◌-◌}
 use native.Mathlib.Omega.{arith}
-use lib.ListN.{length, length-take}
+use lib.ListN.{length}
 use lib.Seq.{length-take-le}
 use Rattle.words.specs.Block.{Block, Bytes}
 use Rattle.words.proofs.Blocks.{bytes_take}
@@ -18,20 +18,13 @@ use Rattle.opp.proofs.Passes.{tag_is}
 use Rattle.opp.proofs.Opened.{opp-lawful}
 use Rattle.opp.proofs.open.Goals as goal
 
-pub slice_bounds-pass-end : goal.slice_bounds-pass-end
-slice_bounds-pass-end c = sym (length-take-le _ _ (omega arith))
-
-pub pass-passed-requires : goal.pass-passed-requires
-pass-passed-requires c = simp length-take (omega arith)
-
 pub returns : goal.returns
 unfolding written plain opp_mode opp_plain open_at under planned D message_of cipher_part
 returns c =
-    let start = c in
-    let a = start.args in
+    let a = c.args in
     let parcel = a.parcel.now in
     let s = cipher_part parcel in
-    let block : Block a.start = array-block _ _ start.well_formed.0 in
+    let block : Block a.start = array-block _ _ c.well_formed.0 in
     let all : Bytes parcel = record { bytes = λ i. (c.type_inv.parcel i).fits } in
     let bytes : Bytes s = bytes_take (length parcel - 32) parcel all in
     let long : length s ≡ length parcel - 32 = length-take-le (length parcel - 32) parcel (omega arith) in

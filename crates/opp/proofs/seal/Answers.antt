@@ -15,10 +15,9 @@ use Rattle.opp.proofs.seal.Goals as goal
 pub returns : goal.returns
 unfolding written plain opp_mode opp_cipher seal_at under planned E
 returns c =
-    let start = c in
-    let a = start.args in
+    let a = c.args in
     let m = a.message.now in
-    let block : Block a.start = array-block _ _ start.well_formed.0 in
+    let block : Block a.start = array-block _ _ c.well_formed.0 in
     let bytes : Bytes m = record { bytes = λ i. (c.type_inv.message i).fits } in
     let pass = c.pass-passed.ensures in
     let tag = tag_is a.rounds a.start m block bytes false a.header.now _ pass.all-checked pass.last-mask c.tag_block.ensures in

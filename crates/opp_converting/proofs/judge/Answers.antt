@@ -3,8 +3,7 @@ use mathlib.Core.Path.{ap, ◌∙◌}
 use mathlib.Core.Bool.{true}
 use mathlib.Core.List.{List}
 use Prim.Native.Nat.{ℕ, ◌-◌}
-use native.Mathlib.Omega.{arith}
-use lib.ListN.{length, length-take}
+use lib.ListN.{length}
 use Rattle.words.specs.Block.{Block, Bytes}
 use Rattle.words.proofs.Blocks.{bytes_take}
 use Rattle.words.proofs.Arrays.{array-block}
@@ -16,16 +15,12 @@ use Rattle.opp.specs.Pass.{written, plain}
 use Rattle.opp.proofs.Passes.{tag_is}
 use Rattle.opp_converting.proofs.judge.Goals as goal
 
-pub slice_bounds-check-end : goal.slice_bounds-check-end
-slice_bounds-check-end c = simp length-take (omega arith)
-
 pub returns : goal.returns
 unfolding genuine opp_mode message_of cipher_part written plain opp_plain open_at under planned D
 returns c =
-    let start = c in
-    let a = start.args in
+    let a = c.args in
     let parcel = a.parcel.now in
-    let block : Block a.start = array-block _ _ start.well_formed.0 in
+    let block : Block a.start = array-block _ _ c.well_formed.0 in
     let all : Bytes parcel = record { bytes = λ i. (c.type_inv.parcel i).fits } in
     let bytes : Bytes (cipher_part parcel) = bytes_take (length parcel - 32) parcel all in
     let check = c.check-passed.ensures in

@@ -3,7 +3,7 @@ use mathlib.Core.Path.{◌≡◌}
 use mathlib.Core.Bool.{false}
 use Prim.Native.Nat.{◌+◌, ◌-◌}
 use native.Mathlib.Omega.{arith}
-use lib.ListN.{length, length-take}
+use lib.ListN.{length}
 use Rattle.words.specs.Block.{Block, Bytes}
 use Rattle.words.proofs.Blocks.{bytes_take}
 use Rattle.words.proofs.Arrays.{array-block}
@@ -18,22 +18,15 @@ use Rattle.opp.proofs.Opened.{opp-lawful}
 use Rattle.opp_converting.proofs.Resealed.{message-bytes}
 use Rattle.opp_converting.proofs.reseal.Goals as goal
 
-pub slice_bounds-reseal_all-end : goal.slice_bounds-reseal_all-end
-slice_bounds-reseal_all-end c = simp length-take (omega arith)
-
-pub reseal_all-passed-requires : goal.reseal_all-passed-requires
-reseal_all-passed-requires c = simp length-take (omega arith)
-
 pub returns : goal.returns
 unfolding opp_mode message_of cipher_part written plain opp_cipher seal_at under planned E
 returns c =
-    let start = c in
-    let a = start.args in
+    let a = c.args in
     let parcel = a.parcel.now in
     let header = a.header.now in
     let s = cipher_part parcel in
-    let from : Block a.from = array-block _ _ start.well_formed.0 in
-    let to : Block a.to = array-block _ _ start.well_formed.1.0 in
+    let from : Block a.from = array-block _ _ c.well_formed.0 in
+    let to : Block a.to = array-block _ _ c.well_formed.1.0 in
     let all : Bytes parcel = record { bytes = λ i. (c.type_inv.parcel i).fits } in
     let bytes : Bytes s = bytes_take (length parcel - 32) parcel all in
     let m = message_of (opp_mode a.rounds a.from) parcel in

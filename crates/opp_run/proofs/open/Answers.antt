@@ -7,7 +7,6 @@ use lib.ListN.{length, take}
 use lib.Seq.{length-take-le}
 use Rattle.words.specs.Block.{Block, Bytes}
 use Rattle.words.proofs.Blocks.{bytes_take}
-use Rattle.runs.proofs.Planned.{first_block}
 use Rattle.mem.specs.Mem.{D}
 use Rattle.blockplan.specs.Plan.{whole}
 use Rattle.blockplan.specs.Parcel.{message_of, cipher_part}
@@ -26,13 +25,13 @@ pub pass-check-requires : goal.pass-check-requires
 unfolding whole
 pass-check-requires c =
     let short = length-take-le (length c.args.parcel.now - 32) c.args.parcel.now (omega arith) in
-    (c.requires.0, rw short (omega arith))
+    rw short (omega arith)
 
 pub tag_block-requires : goal.tag_block-requires
 unfolding whole
 tag_block-requires c =
     let short = length-take-le (length c.args.parcel.now - 32) c.args.parcel.now (omega arith) in
-    (c.requires.0, rw short (omega arith))
+    rw short (omega arith)
 
 pub returns : goal.returns
 unfolding written plain opp_mode opp_plain open_at under planned D message_of cipher_part
@@ -41,11 +40,11 @@ returns c =
     let w = a.run.now in
     let parcel = a.parcel.now in
     let s = cipher_part parcel in
-    let block : Block (take 16 w) = first_block w c.requires.0.long (λ i. (c.type_inv.run i).fits) in
     let all : Bytes parcel = record { bytes = λ i. (c.type_inv.parcel i).fits } in
     let bytes : Bytes s = bytes_take (length parcel - 32) parcel all in
     let long : length s ≡ length parcel - 32 = length-take-le (length parcel - 32) parcel (omega arith) in
     let pass = c.pass-check.ensures in
+    let block : Block (take 16 w) = pass.start in
     let tag = tag-from a.rounds (take 16 w) s block bytes true a.header.now _ pass.value refl c.tag_block.ensures in
     rw (← opened-is (opp_mode a.rounds (take 16 w)) (opp-lawful a.rounds (take 16 w) block) a.header.now parcel a.out.now (omega arith))
     (rw (tag, pass.out_after, long) at c.verify.ensures)

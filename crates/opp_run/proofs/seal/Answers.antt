@@ -3,7 +3,6 @@ use mathlib.Core.Path.{refl}
 use mathlib.Core.Bool.{false}
 use lib.ListN.{take}
 use Rattle.words.specs.Block.{Block, Bytes}
-use Rattle.runs.proofs.Planned.{first_block}
 use Rattle.mem.specs.Mem.{E}
 use Rattle.blockplan.specs.Pass.{under, planned}
 use Rattle.blockplan.proofs.Parcels.{sealed-as}
@@ -19,8 +18,8 @@ returns c =
     let a = c.args in
     let w = a.run.now in
     let m = a.message.now in
-    let block : Block (take 16 w) = first_block w c.requires.0.long (λ i. (c.type_inv.run i).fits) in
     let bytes : Bytes m = record { bytes = λ i. (c.type_inv.message i).fits } in
     let pass = c.pass-check.ensures in
+    let block : Block (take 16 w) = pass.start in
     let tag = tag-from a.rounds (take 16 w) m block bytes false a.header.now _ pass.value refl c.tag_block.ensures in
     sealed-as (opp_mode a.rounds (take 16 w)) (opp-lawful a.rounds (take 16 w) block) a.header.now m _ refl _ a.out.now _ _ tag pass.out_after c.store_tag.ensures

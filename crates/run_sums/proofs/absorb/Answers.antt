@@ -12,6 +12,7 @@ use Rattle.blockplan.specs.Plan.{whole, has_left, xor_over}
 use Rattle.blockplan.specs.Pass.{made_at, under}
 use Rattle.quads.proofs.Moved.{fours-le, whole-moved, left-moved, absorbed-more}
 use borrow.Author.Rules.{rules}
+use Rattle.runs.specs.Kinds.{neighbours_in}
 use Rattle.run_sums.proofs.absorb.Goals as goal
 
 pub loop-i-init : goal.loop-i-init
@@ -20,7 +21,7 @@ loop-i-init c = (refl, (search rules, (zero-add _, (refl, c.zero-sum.ensures))))
 
 pub absorb_four-next-requires : goal.absorb_four-next-requires
 unfolding whole
-absorb_four-next-requires c = (omega arith, (omega arith, omega arith))
+absorb_four-next-requires c = (omega arith, omega arith)
 
 pub loop-i-preserved : goal.loop-i-preserved
 loop-i-preserved c =
@@ -30,20 +31,20 @@ loop-i-preserved c =
     let rest = at.rest.now in
     let here : 512 * at.i ≡ 128 * (4 * at.i) = omega arith in
     let on : 4 * at.i + 4 ≡ 4 * (at.i + 1) = omega arith in
-    let more = absorbed-more a.rounds a.kind a.run.now s (4 * at.i) 4 at.sum _ at.invariant.1.1.1.1 (rw (at.invariant.1.1.1.0, here) at c.absorb_four-next.ensures) in (
+    let more = absorbed-more a.rounds (neighbours_in a.kind) a.run.now s (4 * at.i) 4 at.sum _ at.invariant.1.1.1.1 (rw (at.invariant.1.1.1.0, here) at c.absorb_four-next.ensures) in (
       refl,
       (
         omega arith,
         (
           simp (tail_part, length-drop) (omega arith),
-          (next_part 512 at.i rest s at.invariant.1.1.1.0, more ∙ ap (xor_over (made_at (under false a.rounds (mask_from a.kind a.run.now)) s)) on),
+          (next_part 512 at.i rest s at.invariant.1.1.1.0, more ∙ ap (xor_over (made_at (under false a.rounds (mask_from (neighbours_in a.kind) a.run.now)) s)) on),
         ),
       ),
     )
 
 pub absorb_ones-requires : goal.absorb_ones-requires
 unfolding whole
-absorb_ones-requires c = (omega arith, (omega arith, omega arith))
+absorb_ones-requires c = omega arith
 
 pub returns : goal.returns
 unfolding has_left
@@ -57,5 +58,5 @@ returns c =
     let far : 512 * at.i ≡ 128 * n = omega arith in
     let i : 4 * at.i ≡ n = omega arith in
     let all : n + whole part ≡ whole s = rw (whole-moved s n most) (omega (arith, most)) in
-    let sum = absorbed-more a.rounds a.kind a.run.now s n (whole part) at.sum _ (rw i at at.invariant.1.1.1.1) refl in
+    let sum = absorbed-more a.rounds (neighbours_in a.kind) a.run.now s n (whole part) at.sum _ (rw i at at.invariant.1.1.1.1) refl in
     rw (c.absorb_ones.ensures, at.invariant.1.1.1.0, far, sum, left-moved s n most, all)

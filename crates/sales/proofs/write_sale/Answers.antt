@@ -5,9 +5,5 @@ use Rattle.sales.proofs.write_sale.Goals as goal
 
 pub returns : goal.returns
 returns c =
-    let begin = c in
-    let a = begin.args in
-    let nonce = c.put_nonce.ensures in
-    let start = c.start-first.ensures in
-    let r = c.put_record.ensures in
-    body-written a.key.now a.of (fields_fit a.of _ begin.well_formed.1.0) a.out.now begin.requires.1 _ _ _ _ nonce start r c.seal.ensures
+    let a = c.args in
+    body-written a.key.now a.of (fields_fit a.of _ c.well_formed.1.0) a.out.now c.requires _ _ _ _ c.put_nonce.ensures c.start-first.ensures c.put_record.ensures c.seal.ensures

@@ -1,17 +1,13 @@
 -- What was named, taken out of its chain. Assumes nothing.
-use Rattle.store.proofs.Sought.{cell-inside, before-inside}
-use Rattle.store.proofs.Calls.{named-formed, named-before, named-cell, cancel-done, cancel-refused}
+use mathlib.Core.Path.{sym, ◌∙◌}
+use Rattle.store.proofs.Calls.{error-is, named-inside, cancel-done, cancel-refused}
 use Rattle.store.proofs.cancel.Goals as goal
 
+pub returns-in_err-named : goal.returns-in_err-named
+returns-in_err-named c = rw (error-is _ c.from_residual.ensures.1) (cancel-refused _ _ _ _ (sym c.in_err-named.was ∙ c.open_named.ensures))
+
 pub empty-requires : goal.empty-requires
-empty-requires c =
-    let e = c.open_named-named.ensures in
-    let q = c.in-Open.is in
-    let h = named-formed _ _ _ _ e q in
-    (rw (named-before _ _ _ _ e q) (before-inside _ _ _ h.0), rw (named-cell _ _ _ _ e q) (cell-inside _ _ _ h.0 h.1))
+empty-requires c = named-inside _ _ _ _ (sym c.in_ok-named.was ∙ c.open_named.ensures)
 
-pub returns-in-Refused : goal.returns-in-Refused
-returns-in-Refused c = cancel-refused _ _ _ _ c.open_named-named.ensures c.in-Refused.is
-
-pub returns-in-Open : goal.returns-in-Open
-returns-in-Open c = cancel-done _ _ _ _ c.open_named-named.ensures c.in-Open.is _ c.empty.ensures
+pub returns : goal.returns
+returns c = rw c.from.ensures (cancel-done _ _ _ _ (sym c.in_ok-named.was ∙ c.open_named.ensures) _ c.empty.ensures)

@@ -8,7 +8,7 @@ use Rattle.store.proofs.format.Goals as goal
 
 pub returns-then-not-length_fits : goal.returns-then-not-length_fits
 unfolding format_call format_checks length_or fault_check checked
-returns-then-not-length_fits c = rw (sym c.length_fits.ensures ∙ c.if-not-length_fits.true)
+returns-then-not-length_fits c = rw (sym c.length_fits.ensures ∙ c.if-not-length_fits.true, c.from.ensures)
 
 pub format-requires : goal.format-requires
 format-requires c =

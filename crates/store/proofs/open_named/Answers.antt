@@ -1,53 +1,43 @@
 -- The checks one after the other, and what opening tells. Assumes nothing.
-use mathlib.Core.Path.{sym, ap, ◌∙◌}
-use borrow.Author.Tests.{not-true, not-false}
-use Rattle.cells.specs.Numbers.{number_at}
+use mathlib.Core.Path.{sym, ◌∙◌}
 use Rattle.cells.proofs.Cells.{body-length}
-use Rattle.sales.proofs.Held.{held-record}
+use Rattle.sales.proofs.Held.{opened-some, opened-none}
 use Rattle.entries.specs.Entries.{opens_at}
-use Rattle.store.proofs.Sought.{found-absent, found-present, found-cell, found_before, cell-inside}
-use Rattle.store.proofs.Calls.{key-clear, named-stopped, named-absent, named-shut, named-open}
+use Rattle.store.proofs.Sought.{found-none, found-some, cell-inside}
+use Rattle.store.proofs.Calls.{error-is, missing, key-clear, named-stopped, named-absent, named-shut, named-open}
 use Rattle.store.proofs.open_named.Goals as goal
 
-pub returns-in-Fails : goal.returns-in-Fails
-returns-in-Fails c = named-stopped _ _ _ _ _ _ c.check_key-found.ensures c.in-Fails.is
+pub returns-in_err-key : goal.returns-in_err-key
+returns-in_err-key c = rw (error-is _ c.from_residual.ensures.1) (named-stopped _ _ _ _ c.in_err-key.ensures)
 
-pub find-there-requires : goal.find-there-requires
-find-there-requires c = (key-clear _ _ (sym c.check_key-found.ensures ∙ c.in_default.is)).1
+pub find-requires : goal.find-requires
+find-requires c = (key-clear _ _ c.in_ok-key.ensures.1).1
+
+pub returns-in_err-place : goal.returns-in_err-place
+returns-in_err-place c =
+    rw (error-is _ c.from_residual-in_err-place.ensures.1, missing _ _ _ c.in_err-place.ensures.value)
+    (named-absent _ _ _ _ c.in_ok-key.ensures.1 (found-none _ _ _ (sym c.in_err-place.ensures.ok_part ∙ c.find.ensures)))
 
 pub body_of-requires : goal.body_of-requires
 body_of-requires c =
-    let e = c.find-there.ensures in
-    let q = c.in-At.is in
-    rw (found-cell _ _ _ e q) (cell-inside _ _ _ (key-clear _ _ (sym c.check_key-found.ensures ∙ c.in_default.is)).1 (found-present _ _ _ e q))
+    let there = found-some _ _ _ _ (sym c.in_ok-place.ensures.ok_part ∙ c.find.ensures) in
+    rw there.1 (cell-inside _ _ _ (key-clear _ _ c.in_ok-key.ensures.1).1 there.0)
 
-pub open_sale-opened-requires : goal.open_sale-opened-requires
-open_sale-opened-requires c =
-    let e = c.find-there.ensures in
-    let q = c.in-At.is in
-    let h = key-clear _ _ (sym c.check_key-found.ensures ∙ c.in_default.is) in
-    (h.0, rw (c.body_of.ensures, found-cell _ _ _ e q) (body-length _ _ (cell-inside _ _ _ h.1 (found-present _ _ _ e q))))
+pub open_sale-requires : goal.open_sale-requires
+open_sale-requires c =
+    let there = found-some _ _ _ _ (sym c.in_ok-place.ensures.ok_part ∙ c.find.ensures) in
+    rw (c.body_of.ensures, there.1) (body-length _ _ (cell-inside _ _ _ (key-clear _ _ c.in_ok-key.ensures.1).1 there.0))
 
-pub returns-then-not-opened : goal.returns-then-not-opened
+pub returns-in_default : goal.returns-in_default
 unfolding opens_at
-returns-then-not-opened c =
-    let e = c.find-there.ensures in
-    let q = c.in-At.is in
-    named-shut _ _ _ _ c.check_key-found.ensures c.in_default.is _ (found-present _ _ _ e q) (found-cell _ _ _ e q)
-    (rw c.body_of.ensures at (sym c.open_sale-opened.ensures.opens-is ∙ not-true _ c.if-not-opened.true))
+returns-in_default c =
+    let there = found-some _ _ _ _ (sym c.in_ok-place.ensures.ok_part ∙ c.find.ensures) in
+    let shut = opened-none _ _ (rw (c.body_of.ensures, there.1, c.in_ok-key.ensures.0) at (sym c.in_default.is ∙ c.open_sale.ensures)) in
+    rw (c.at.ensures, there.1) (named-shut _ _ _ _ c.in_ok-key.ensures.1 there.0 shut)
 
-pub returns-in-Nowhere : goal.returns-in-Nowhere
-returns-in-Nowhere c =
-    named-absent _ _ _ _ c.check_key-found.ensures c.in_default.is (found-absent _ _ _ c.find-there.ensures c.in-Nowhere.is)
-
-pub returns-else-not-opened : goal.returns-else-not-opened
+pub returns : goal.returns
 unfolding opens_at
-returns-else-not-opened c =
-    let e = c.find-there.ensures in
-    let q = c.in-At.is in
-    let body = c.body_of.ensures in
-    let sale = c.open_sale-opened.ensures in
-    let o = rw body at (sym sale.opens-is ∙ not-false _ c.if-not-opened.false) in
-    let r = held-record _ _ o in
-    named-open _ _ _ _ c.check_key-found.ensures c.in_default.is _ (found-present _ _ _ e q) (found-cell _ _ _ e q) _ _ _ o (found_before _ _ _ e q)
-    ((rw body at sale.amount-is) ∙ ap (number_at 4 0) r) ((rw body at sale.price-is) ∙ ap (number_at 4 7) r)
+returns c =
+    let there = found-some _ _ _ _ (sym c.in_ok-place.ensures.ok_part ∙ c.find.ensures) in
+    let told = opened-some _ _ _ (rw (c.body_of.ensures, there.1, c.in_ok-key.ensures.0) at (sym c.in-Some.is ∙ c.open_sale.ensures)) in
+    rw (there.1, told.1) (named-open _ _ _ _ c.in_ok-key.ensures.1 there.0 told.0)

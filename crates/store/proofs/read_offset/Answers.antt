@@ -1,33 +1,24 @@
 use native.Mathlib.Omega.{arith}
 use Rattle.cells.proofs.Form.{form_of}
 use Rattle.store.specs.Store.{read_offset}
-use Rattle.store.proofs.Sought.{cell-inside}
-use Rattle.store.proofs.Calls.{located, located-formed, located-present, located-judged, unlocated-judged}
+use Rattle.store.proofs.Calls.{error-is, located, located-inside, located-formed, located-judged, unlocated-judged}
 use Rattle.store.proofs.read_offset.Goals as goal
 
-pub overflow_mul-offset : goal.overflow_mul-offset
-overflow_mul-offset c =
-    let e = c.locate-at.ensures in
-    let q = c.in-Done.is in
-    let l = (located _ _ _ e q).1 in
-    let f = (form_of _ (located-formed _ _ _ e q)).size in
-    omega (arith, cell-inside _ _ _ (located-formed _ _ _ e q) (located-present _ _ _ e q), f.whole, f.most)
-
-pub overflow_add-offset : goal.overflow_add-offset
-overflow_add-offset c =
-    let e = c.locate-at.ensures in
-    let q = c.in-Done.is in
-    let l = (located _ _ _ e q).1 in
-    let f = (form_of _ (located-formed _ _ _ e q)).size in
-    omega (arith, cell-inside _ _ _ (located-formed _ _ _ e q) (located-present _ _ _ e q), f.whole, f.most)
-
-pub returns-in-Done : goal.returns-in-Done
+pub returns-in_err-c : goal.returns-in_err-c
 unfolding read_offset
-returns-in-Done c =
-    let e = c.locate-at.ensures in
-    let q = c.in-Done.is in
-    rw (located _ _ _ e q).1 (located-judged _ _ _ e q _)
+returns-in_err-c c = rw (error-is _ c.from_residual.ensures.1) (unlocated-judged _ _ _ c.locate.ensures c.in_err-c.was _)
 
-pub returns-in-Refused : goal.returns-in-Refused
+pub overflow_mul-result : goal.overflow_mul-result
+overflow_mul-result c =
+    let f = (form_of _ (located-formed _ _ _ c.locate.ensures c.in_ok-c.was)).size in
+    omega (arith, located-inside _ _ _ c.locate.ensures c.in_ok-c.was, f.whole, f.most)
+
+pub overflow_add-result : goal.overflow_add-result
+overflow_add-result c =
+    let f = (form_of _ (located-formed _ _ _ c.locate.ensures c.in_ok-c.was)).size in
+    omega (arith, located-inside _ _ _ c.locate.ensures c.in_ok-c.was, f.whole, f.most)
+
+pub returns : goal.returns
 unfolding read_offset
-returns-in-Refused c = unlocated-judged _ _ _ c.locate-at.ensures c.in-Refused.is _
+returns c =
+    rw (located _ _ _ c.locate.ensures c.in_ok-c.was).1 (located-judged _ _ _ c.locate.ensures c.in_ok-c.was _)

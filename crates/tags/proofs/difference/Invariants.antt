@@ -1,12 +1,8 @@
 -- The loop's invariant: the bits in which the first i words differ. Assumes nothing.
 use mathlib.Core.Path.{◌≡◌}
-use Prim.Native.Nat.{◌-◌, ◌≤◌}
 use Rattle.words.specs.Block.{block_of}
 use Rattle.blockplan.specs.Compare.{differing}
 use Rattle.tags.proofs.difference.Given as goal
 
 abbrev pub invariant-loop-i : goal.invariant-loop-i
-invariant-loop-i l = (l.i ≤ 4) × (l.differ ≡ differing l.b (block_of l.tag) l.i)
-
-abbrev pub decreases-loop-i : goal.decreases-loop-i
-decreases-loop-i l = 4 - l.i
+invariant-loop-i l = l.differ ≡ differing l.b (block_of l.tag) l.i

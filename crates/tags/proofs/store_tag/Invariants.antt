@@ -1,11 +1,7 @@
 -- The loop's invariant: the bytes of the first i words are in, the others are as they were. Assumes nothing.
-use Prim.Native.Nat.{◌-◌}
 use Rattle.words.specs.Block.{word_bytes}
 use Rattle.words.proofs.Loops.{Writing}
 use Rattle.tags.proofs.store_tag.Given as goal
 
 abbrev pub invariant-loop-i : goal.invariant-loop-i
 invariant-loop-i l = Writing (word_bytes l.b) 8 4 l.initial.out l.out l.i
-
-abbrev pub decreases-loop-i : goal.decreases-loop-i
-decreases-loop-i l = 4 - l.i

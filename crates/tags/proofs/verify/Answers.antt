@@ -15,9 +15,8 @@ use Rattle.tags.proofs.verify.Goals as goal
 pub returns : goal.returns
 unfolding verified tag_part
 returns c =
-    let start = c in
-    let a = start.args in
-    let block : Block a.expected = array-block _ _ start.well_formed.0 in
+    let a = c.args in
+    let block : Block a.expected = array-block _ _ c.well_formed.0 in
     let parcel = a.parcel.now in
     let exact : length (tag_part parcel) ≡ 32 = simp length-drop (omega arith) in
     let differ = rw (tail_part (length parcel - 32) parcel) at c.difference-differ.ensures in

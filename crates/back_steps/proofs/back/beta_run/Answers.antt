@@ -2,7 +2,7 @@
 use mathlib.Core.Path.{refl}
 use native.Mathlib.Omega.{arith}
 use native.Mathlib.Numerals.{add-one}
-use Rattle.words.proofs.Loops.{filling-none, filling-more, filling-done}
+use Rattle.words.proofs.Loops.{filling-none, filling-more}
 use Rattle.back_steps.specs.BackSteps.{beta_run}
 use borrow.Author.Rules.{rules}
 use Rattle.back_steps.proofs.back.beta_run.Goals as goal
@@ -16,6 +16,3 @@ unfolding beta_run
 loop-i-preserved c =
     let inv = c.loop-i.invariant in
     (filling-more inv.0 (omega arith) inv.1, rw (add-one, inv.1))
-
-pub returns : goal.returns
-returns c = filling-done c.loop-i.invariant.0 (omega arith)

@@ -1,7 +1,7 @@
 -- The loop's invariant: the first i words are in, and u and v are the next two. Assumes nothing.
 use mathlib.Core.Path.{refl}
 use native.Mathlib.Omega.{arith}
-use Rattle.words.proofs.Loops.{filling-none, filling-more, filling-done}
+use Rattle.words.proofs.Loops.{filling-none, filling-more}
 use Rattle.back_steps.specs.BackSteps.{gamma_run}
 use Rattle.back_steps.proofs.Undoing.{gamma-after}
 use borrow.Author.Rules.{rules}
@@ -15,6 +15,3 @@ pub loop-i-preserved : goal.loop-i-preserved
 loop-i-preserved c =
     let at = c.loop-i in
     (filling-more at.invariant.0 (omega arith) at.invariant.1.0, (at.invariant.1.1, gamma-after _ _ _ at.i _ _ at.invariant.1.0 at.invariant.1.1))
-
-pub returns : goal.returns
-returns c = filling-done c.loop-i.invariant.0 (omega arith)

@@ -9,33 +9,30 @@ pub index_at-at-requires : goal.index_at-at-requires
 index_at-at-requires c = let f = form_of _ c.requires in omega (arith, f.size.least)
 
 pub loop-at-init : goal.loop-at-init
-unfolding cells first_sale
+unfolding first_sale
 loop-at-init c = rw c.index_at-at.ensures (seek-start _ _ c.requires)
 
 pub is_named-requires : goal.is_named-requires
-is_named-requires c = (seek-onward _ _ _ _ _ c.loop-at.invariant c.if-at-eq0.false).inside
+is_named-requires c = (seek-onward _ _ _ _ c.loop-at.invariant c.loop-at-test.true).inside
 
-pub overflow_sub-left : goal.overflow_sub-left
-overflow_sub-left c = (seek-onward _ _ _ _ _ c.loop-at.invariant c.if-at-eq0.false).steps
+pub returns-then-is_named : goal.returns-then-is_named
+returns-then-is_named c =
+    found_at _ _ _ _ _ (seek-here _ _ _ _ c.loop-at.invariant c.loop-at-test.true (sym c.is_named.ensures ∙ c.if-is_named.true))
 
 pub next_of-at-requires : goal.next_of-at-requires
-next_of-at-requires c = (seek-onward _ _ _ _ _ c.loop-at.invariant c.if-at-eq0.false).inside
+next_of-at-requires c = (seek-onward _ _ _ _ c.loop-at.invariant c.loop-at-test.true).inside
 
 pub loop-at-smaller : goal.loop-at-smaller
-loop-at-smaller c = let h = (seek-onward _ _ _ _ _ c.loop-at.invariant c.if-at-eq0.false).steps in omega arith
+loop-at-smaller c = rw c.next_of-at.ensures (seek-onward _ _ _ _ c.loop-at.invariant c.loop-at-test.true).fewer
 
 pub loop-at-preserved : goal.loop-at-preserved
 loop-at-preserved c =
     rw c.next_of-at.ensures
-    (seek-on _ _ _ _ _ c.loop-at.invariant c.if-at-eq0.false (sym c.is_named.ensures ∙ c.if-is_named.false))
+    (seek-on _ _ _ _ c.loop-at.invariant c.loop-at-test.true (sym c.is_named.ensures ∙ c.if-is_named.false))
 
-pub returns-then-at-eq0 : goal.returns-then-at-eq0
-returns-then-at-eq0 c = found_none _ _ _ (seek-end _ _ _ _ _ c.loop-at.invariant c.if-at-eq0.true)
-
-pub returns-then-at-cells : goal.returns-then-at-cells
+pub returns-else-at-cells : goal.returns-else-at-cells
 unfolding cells
-returns-then-at-cells c = let h = (seek-onward _ _ _ _ _ c.loop-at.invariant c.if-at-eq0.false).inside in absurd (omega arith)
+returns-else-at-cells c = let h = (seek-onward _ _ _ _ c.loop-at.invariant c.loop-at-test.true).inside in absurd (omega arith)
 
-pub returns-then-is_named : goal.returns-then-is_named
-returns-then-is_named c =
-    found_at _ _ _ _ _ (seek-here _ _ _ _ _ c.loop-at.invariant c.if-at-eq0.false (sym c.is_named.ensures ∙ c.if-is_named.true))
+pub returns-after-loop-at : goal.returns-after-loop-at
+returns-after-loop-at c = found_none _ _ _ (seek-end _ _ _ _ c.loop-at.invariant c.loop-at-test.false)

@@ -1,54 +1,43 @@
-use mathlib.Core.Path.{◌∙◌}
+use mathlib.Core.Path.{ap, ◌∙◌}
 use native.Mathlib.Omega.{arith}
+use Rattle.std.specs.Prelude.{Err}
+use Rattle.std.proofs.lemmas.Result.{err_from_is_err_and}
 use Rattle.cells.specs.Cells.{cells}
 use Rattle.chains.proofs.Faults.{sales-walked, free-walked, broken-sales, broken-free, misfit-low, last-check, none-reached}
 use Rattle.chains.proofs.form.form_fault.Goals as goal
 
-pub index_at-requires : goal.index_at-requires
+pub walk-requires : goal.walk-requires
 unfolding cells
-index_at-requires c = omega arith
+walk-requires c = (omega arith, none-reached _ _ c.requires.0.0 c.requires.1)
 
-pub overflow_sub-cells : goal.overflow_sub-cells
+pub returns-in_err-sales : goal.returns-in_err-sales
 unfolding cells
-overflow_sub-cells c = omega arith
+returns-in_err-sales c =
+    let h = err_from_is_err_and _ c.from_residual.ensures.1 in
+    let sold = sales-walked _ _ _ _ _ c.index_at.ensures c.walk.ensures.1 c.requires.1 in
+    h.1 ∙ ap Err h.2 ∙ broken-sales _ _ _ (rw c.in_err-sales.was at sold)
 
-pub walk-sales-requires : goal.walk-sales-requires
+pub returns-in_err-free : goal.returns-in_err-free
 unfolding cells
-walk-sales-requires c = (omega arith, none-reached _ _ c.requires.0.0 c.requires.1)
-
-pub index_at-requires-in-End : goal.index_at-requires-in-End
-unfolding cells
-index_at-requires-in-End c = omega arith
-
-pub walk-free-requires : goal.walk-free-requires
-unfolding cells
-walk-free-requires c = (omega arith, c.walk-sales.ensures.0)
+returns-in_err-free c =
+    let h = err_from_is_err_and _ c.from_residual-in_err-free.ensures.1 in
+    let sold = rw c.in_ok-sales.was at (sales-walked _ _ _ _ _ c.index_at.ensures c.walk.ensures.1 c.requires.1) in
+    let all = free-walked _ _ _ _ _ _ c.index_at-2.ensures c.walk-2.ensures.1 sold in
+    h.1 ∙ ap Err h.2 ∙ broken-free _ _ _ _ _ sold (rw c.in_err-free.was at all)
 
 pub first_unreached-requires : goal.first_unreached-requires
 unfolding cells
 first_unreached-requires c =
-    let sold = sales-walked _ _ _ _ _ c.index_at.ensures c.walk-sales.ensures.1 c.requires.1 in
-    let all = free-walked _ _ _ _ _ _ c.index_at-in-End.ensures c.walk-free.ensures.1 sold in
-    ((all.lowest.most, omega arith), (misfit-low _ _ _ _ _ sold c.in-End.is all c.walk-free.ensures.0.head c.requires.0.0, c.walk-free.ensures.0))
+    let sold = rw c.in_ok-sales.was at (sales-walked _ _ _ _ _ c.index_at.ensures c.walk.ensures.1 c.requires.1) in
+    let all = rw c.in_ok-free.was at (free-walked _ _ _ _ _ _ c.index_at-2.ensures c.walk-2.ensures.1 sold) in
+    let left = c.in_ok-free.ensures.0 in
+    ((all.lowest.most, omega arith), (misfit-low _ _ _ _ _ sold all left.head c.requires.0.0, left))
 
-pub returns-in-Broken : goal.returns-in-Broken
+pub returns : goal.returns
 unfolding cells
-returns-in-Broken c =
-    let sold = sales-walked _ _ _ _ _ c.index_at.ensures c.walk-sales.ensures.1 c.requires.1 in
-    broken-sales _ _ _ _ sold c.in-Broken.is
-
-pub returns-in-Broken-free_stop : goal.returns-in-Broken-free_stop
-unfolding cells
-returns-in-Broken-free_stop c =
-    let sold = sales-walked _ _ _ _ _ c.index_at.ensures c.walk-sales.ensures.1 c.requires.1 in
-    let all = free-walked _ _ _ _ _ _ c.index_at-in-End.ensures c.walk-free.ensures.1 sold in
-    broken-free _ _ _ _ _ sold c.in-End.is all _ c.in-Broken-free_stop.is
-
-pub returns-in-End-free_stop : goal.returns-in-End-free_stop
-unfolding cells
-returns-in-End-free_stop c =
-    let sold = sales-walked _ _ _ _ _ c.index_at.ensures c.walk-sales.ensures.1 c.requires.1 in
-    let all = free-walked _ _ _ _ _ _ c.index_at-in-End.ensures c.walk-free.ensures.1 sold in
-    let told = c.in-End.is in
+returns c =
+    let sold = rw c.in_ok-sales.was at (sales-walked _ _ _ _ _ c.index_at.ensures c.walk.ensures.1 c.requires.1) in
+    let all = rw c.in_ok-free.was at (free-walked _ _ _ _ _ _ c.index_at-2.ensures c.walk-2.ensures.1 sold) in
+    let left = c.in_ok-free.ensures.0 in
     c.kind_fault.ensures
-    ∙ last-check _ _ _ _ _ sold told all _ c.in-End-free_stop.is (misfit-low _ _ _ _ _ sold told all c.walk-free.ensures.0.head c.requires.0.0) c.first_unreached.ensures
+    ∙ last-check _ _ _ _ _ sold all _ (misfit-low _ _ _ _ _ sold all left.head c.requires.0.0) c.first_unreached.ensures

@@ -1,11 +1,13 @@
 -- The step on four words of one lane. Assumes nothing.
-use native.Mathlib.Omega.{arith}
-use Rattle.permutation.specs.Permutation.{g_at, g_of}
+use Rattle.std.proofs.Common.{get_or, arith}
+use Rattle.permutation.specs.Permutation.{step_at, pick, put}
 use Rattle.lanes.proofs.Laws.{stepped}
 use Rattle.lanes.proofs.g.g_lane.Goals as goal
 
 pub returns : goal.returns
-unfolding g_at
-returns c =
+unfolding step_at pick put
+returns g c =
     let a = c.args in
-    rw c.g-made.ensures (stepped a.w.now a.m a.i a.j a.k a.l c.requires.w_len (omega arith) (omega arith) (omega arith) (omega arith) (omega arith) g_of)
+    let r = a.row in
+    rw c.g-made.ensures
+    (stepped a.w.now a.m (get_or r 0 0) (get_or r 1 0) (get_or r 2 0) (get_or r 3 0) c.told-w (omega arith) (omega arith) (omega arith) (omega arith) (omega arith) g.W.Way.quad)

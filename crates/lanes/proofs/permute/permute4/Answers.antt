@@ -1,25 +1,9 @@
--- The loop's invariant: each lane is as after the rounds so far. Assumes nothing.
-use mathlib.Core.Path.{◌≡◌}
-use native.Mathlib.Numerals.{add-one}
-use native.Mathlib.Omega.{arith}
-use Rattle.words.specs.Sequence.{times}
-use Rattle.permutation.specs.Permutation.{perm}
-use Rattle.lanes.proofs.Laws.{all_same, all_then}
-use borrow.Author.Rules.{rules}
+-- No round leaves each lane as it was, and one more round is taken of what the rounds before it left. Assumes nothing.
+use Rattle.lanes.proofs.Laws.{all_same, all_then, all_is}
 use Rattle.lanes.proofs.permute.permute4.Goals as goal
 
-pub loop-done-init : goal.loop-done-init
-unfolding perm times
-loop-done-init c = (search rules, all_same _)
+pub loop-init : goal.loop-init
+loop-init g c = all_is g.met.W.Way.laws.no-rounds (all_same _)
 
-pub loop-done-preserved : goal.loop-done-preserved
-unfolding perm times
-loop-done-preserved c =
-    let at = c.loop-done in
-    (omega arith, rw add-one (all_then at.invariant.1 c.round4.ensures))
-
-pub returns : goal.returns
-returns c =
-    let at = c.loop-done in
-    let e : at.done ≡ c.args.rounds = omega arith in
-    rw e at at.invariant.1
+pub loop-preserved : goal.loop-preserved
+loop-preserved g c = all_is (g.met.W.Way.laws.one-more c.loop.counter) (all_then c.loop.invariant c.round4.ensures)

@@ -9,8 +9,7 @@ use Rattle.mro.proofs.stream.load_tag.Goals as goal
 pub returns : goal.returns
 unfolding tab zeros word_at
 returns c =
-    let entry = c in
-    let t = entry.args.tag.now in
+    let t = c.args.tag.now in
     rw (
       c.load_word-t3.ensures,
       c.load_word-t2.ensures,
@@ -20,4 +19,4 @@ returns c =
       tail_part 16 t,
       tail_part 24 t,
     )
-    (sym (block-of-tag t entry.requires))
+    (sym (block-of-tag t c.requires))

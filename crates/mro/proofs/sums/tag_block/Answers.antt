@@ -12,9 +12,8 @@ use Rattle.mro.proofs.sums.tag_block.Goals as goal
 
 pub returns : goal.returns
 returns c =
-    let start = c in
-    let a = start.args in
+    let a = c.args in
     let message = a.message.now in
     let sum = c.absorb_all-sum.ensures
     ∙ ap (λ (b : List ℕ). xor_over (made_at (under false a.rounds (stepping b)) message) (blocks message)) c.beta-once.ensures in
-    c.tag_from.ensures ∙ tag-block-is a.rounds a.start a.header.now message _ _ (array-block _ _ start.well_formed.0) sum refl
+    c.tag_from.ensures ∙ tag-block-is a.rounds a.start a.header.now message _ _ (array-block _ _ c.well_formed.0) sum refl

@@ -2,7 +2,7 @@
 use mathlib.Core.Path.{◌≡◌, refl}
 use Prim.Native.Nat.{ℕ, ◌*◌, ◌^◌, ◌<◌}
 use native.Mathlib.Omega.{arith}
-use lib.ListN.{length, length-drop}
+use lib.ListN.{length}
 use Rattle.words.specs.Sequence.{fold, times}
 use Rattle.words.specs.Block.{Block, Bytes}
 use Rattle.words.proofs.Lists.{tail_part}
@@ -15,7 +15,8 @@ use Rattle.blockplan.proofs.Sums.{summed}
 use Rattle.blockplan.proofs.Passes.{stepping-on}
 use Rattle.blockplan.proofs.Tags.{bytes-tag_bytes}
 use Rattle.mro.specs.Mro.{mro_stream, streamed, mro_cipher}
-use Rattle.mro.proofs.Streams.{stream_at, xored}
+use Rattle.mro.specs.Streams.{xored}
+use Rattle.mro.proofs.Streams.{stream_at}
 use Rattle.mro_converting.proofs.Streams.{stream-block}
 use Rattle.mro_converting.proofs.Judged.{taken_at, sum-whole, sum_left}
 use borrow.Author.Rules.{rules}
@@ -23,55 +24,45 @@ use Rattle.mro_converting.proofs.judging.absorb_opened.Goals as goal
 
 pub loop-i-init : goal.loop-i-init
 unfolding xor_over fold stepping times
-loop-i-init c = (refl, (search rules, (c.zero-sum.ensures, refl)))
-
-pub load-requires : goal.load-requires
-load-requires c = rw tail_part (simp length-drop (omega arith))
+loop-i-init c = record { sum_is = c.zero-sum.ensures; mask_is = refl }
 
 pub loop-i-preserved : goal.loop-i-preserved
 unfolding made_at taken_at xored stream_at block_at
 loop-i-preserved c =
     let at = c.loop-i in
     let s = c.args.s.now in
-    let block = rw (c.stream_block.ensures, c.load.ensures, tail_part (128 * at.i) s) at c.xor-block.ensures in
-    let more = rw (c.encipher.ensures, block, at.invariant.1.1.1) at c.xor-next.ensures in (
-      refl,
-      (
-        omega arith,
-        (summed _ at.i at.sum _ at.invariant.1.1.0 more, stepping-on _ at.mask _ at.i at.invariant.1.1.1 c.alpha-step.ensures),
-      ),
-    )
+    let block = rw (c.block.ensures, c.load.ensures, tail_part (128 * at.i) s) at c.xor-block.ensures in
+    let more = rw (c.encipher.ensures, block, at.invariant.mask_is) at c.xor-next.ensures in
+    record { sum_is = summed _ at.i at.sum _ at.invariant.sum_is more; mask_is = stepping-on _ at.mask _ at.i at.invariant.mask_is c.alpha-step.ensures }
 
 pub returns-then-at-s : goal.returns-then-at-s
 unfolding whole mro_cipher streamed mro_stream E mask_at times xored stream_at
 returns-then-at-s c =
-    let start = c in
-    let a = start.args in
+    let a = c.args in
     let s = a.s.now in
     let at = c.loop-i in
-    let mask = c.gamma-stream_mask in
+    let t = c.from_start-stream in
     let bytes : Bytes s = record { bytes = λ i. (c.type_inv.s i).fits } in
-    let block : Block mask.result = rw mask.ensures (gamma-block a.from (array-block _ _ start.well_formed.1.1.0)) in
-    let k = stream_at a.rounds mask.result (tag_bytes a.tag) in
+    let block : Block t.result.mask = rw t.ensures.1.0 (gamma-block a.from (array-block _ _ c.well_formed.1.1.0)) in
+    let k = stream_at t.result.rounds t.result.mask (tag_bytes t.result.tag) in
     let fits : length s < 2 ^ 64 = search rules in
-    let blocks : (i : ℕ) → i < whole s → Block (k i) = λ i p. stream-block a.rounds mask.result (tag_bytes a.tag) block (bytes-tag_bytes a.tag) i (omega arith) in
+    let blocks : (i : ℕ) → i < whole s → Block (k i) = λ i p. stream-block t.result.rounds t.result.mask (tag_bytes t.result.tag) block (bytes-tag_bytes t.result.tag) i (omega arith) in
     let e : at.i ≡ whole s = omega arith in
-    rw mask.ensures at (sum-whole a.rounds (stepping a.first) k s bytes blocks at.sum (rw e at at.invariant.1.1.0) (omega arith))
+    rw (t.ensures.0, t.ensures.1.0, t.ensures.1.1) at (sum-whole a.rounds (stepping a.first) k s bytes blocks at.sum (rw e at at.invariant.sum_is) (omega arith))
 
 pub returns : goal.returns
 unfolding whole left mro_cipher streamed mro_stream E mask_at times xored stream_at
 returns c =
-    let start = c in
-    let a = start.args in
+    let a = c.args in
     let s = a.s.now in
     let at = c.loop-i in
-    let mask = c.gamma-stream_mask in
+    let t = c.from_start-stream in
     let bytes : Bytes s = record { bytes = λ i. (c.type_inv.s i).fits } in
-    let block : Block mask.result = rw mask.ensures (gamma-block a.from (array-block _ _ start.well_formed.1.1.0)) in
-    let k = stream_at a.rounds mask.result (tag_bytes a.tag) in
+    let block : Block t.result.mask = rw t.ensures.1.0 (gamma-block a.from (array-block _ _ c.well_formed.1.1.0)) in
+    let k = stream_at t.result.rounds t.result.mask (tag_bytes t.result.tag) in
     let fits : length s < 2 ^ 64 = search rules in
-    let blocks : (i : ℕ) → i < whole s → Block (k i) = λ i p. stream-block a.rounds mask.result (tag_bytes a.tag) block (bytes-tag_bytes a.tag) i (omega arith) in
+    let blocks : (i : ℕ) → i < whole s → Block (k i) = λ i p. stream-block t.result.rounds t.result.mask (tag_bytes t.result.tag) block (bytes-tag_bytes t.result.tag) i (omega arith) in
     let e : at.i ≡ whole s = omega arith in
     let q : 128 * whole s ≡ length s → ⊥ = λ r. c.if-at-s.false (omega arith) in
-    let last = rw (tail_part (128 * whole s) s, c.stream_block-last.ensures, at.invariant.1.1.1, e) at c.absorb_last.ensures in
-    rw mask.ensures at (sum_left a.rounds (stepping a.first) k s bytes blocks at.sum (rw e at at.invariant.1.1.0) _ q last)
+    let last = rw (tail_part (128 * whole s) s, c.block-2.ensures, at.invariant.mask_is, e) at c.absorb_last.ensures in
+    rw (t.ensures.0, t.ensures.1.0, t.ensures.1.1) at (sum_left a.rounds (stepping a.first) k s bytes blocks at.sum (rw e at at.invariant.sum_is) _ q last)

@@ -21,6 +21,6 @@ returns c =
     let are : FourAre both.result of = record {
       each = λ m h.
           both.ensures.each m h
-          ∙ ap₂ xor_block (c.load4-given.ensures.each m h) (c.encipher4_one-made.ensures.each m h ∙ ap (encipher a.rounds a.mask) (c.counters.ensures.each m h));
+          ∙ ap₂ xor_block (c.load4-given.ensures.each m h) (c.encipher4-made.ensures.each m h ∙ ap (encipher a.rounds a.mask) (c.counters.ensures.each m h));
     } in
     c.store4.ensures ∙ ap (λ (l : List ℕ). l ++ drop 512 a.out.now) (bytes-are-of both.result of are)

@@ -3,11 +3,9 @@ use mathlib.Core.Path.{◌≡◌, sym, ◌∙◌}
 use mathlib.Core.List.{append_assoc}
 use Prim.Native.Nat.{◌*◌, ◌/◌, ◌+◌}
 use native.Mathlib.Omega.{arith}
-use lib.ListN.{length, take, drop, length-drop}
+use lib.ListN.{length, drop, length-drop}
 use Rattle.words.specs.Sequence.{cat}
-use Rattle.words.specs.Block.{Block}
 use Rattle.words.proofs.Lists.{tail_part, fronted}
-use Rattle.runs.proofs.Planned.{first_block}
 use Rattle.blockplan.specs.Plan.{ciphered, tag_bytes}
 use Rattle.blockplan.specs.Pass.{bytes_at}
 use Rattle.blockplan.proofs.Ciphered.{front_length}
@@ -26,18 +24,17 @@ pub returns : goal.returns
 returns c =
     let a = c.args in
     let w = a.run.now in
-    let is = c.requires.0 in
+    let run = c.words.ensures in
     let s = a.s.now in
     let old = a.out.now in
     let n = 4 * (length s / 512) in
     let part = drop (128 * n) s in
     let tag = tag_bytes a.tag in
     let mask = c.mask_at-mask.result in
-    let block : Block (take 16 w) = first_block w is.long (λ i. (c.type_inv.run i).fits) in
     let front = cat (bytes_at (streamed_from a.rounds mask tag 0) s) n in
     let back = ciphered (streamed_from a.rounds mask tag n) (stream_from a.rounds mask tag n) part in
     let rest = rw (tail_part (128 * n) s) at c.xor_stream_from.ensures in
     let far : 128 * n + length part ≡ length s = rw (length-drop (128 * n) s) (omega arith) in
     fronted (128 * n) (length part) front back old _ _ (front_length (streamed_from a.rounds mask tag 0) s n) c.stream_fours.ensures rest
     ∙ sym (append_assoc front back (drop (128 * n + length part) old))
-    ∙ rw (far, streams-joined a.rounds mask tag s n (fours-le s), stream-from-run w is block a.rounds tag s mask c.requires.1.0 c.mask_at-mask.ensures)
+    ∙ rw (far, streams-joined a.rounds mask tag s n (fours-le s), stream-from-run w run.is_run run.start a.rounds tag s mask c.requires.0 (rw run.same at c.mask_at-mask.ensures))

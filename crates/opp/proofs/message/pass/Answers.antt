@@ -12,25 +12,23 @@ use Rattle.opp.proofs.message.pass.Goals as goal
 
 pub returns-then-at-n : goal.returns-then-at-n
 unfolding whole
-returns-then-at-n c =
-    let start = c in
-    let a = start.args in
+returns-then-at-n g c =
+    let a = c.args in
     let s = a.s.now in
-    let block : Block a.start = array-block _ _ start.well_formed.0 in
+    let block : Block a.start = array-block _ _ c.well_formed.0 in
     let bytes : Bytes s = record { bytes = λ i. (c.type_inv.s i).fits } in
-    let blocks = blocks-planned a.rounds a.start s block a.opening (rw c.gamma.ensures at c.pass_blocks-blocks.ensures) in
-    all_whole a.rounds a.start s block bytes a.opening a.out.now _ _ _ blocks (omega arith)
+    let blocks = blocks-planned a.rounds a.start s block _ (rw c.gamma.ensures at c.pass_blocks-blocks.ensures) in
+    all_whole a.rounds a.start s block bytes _ a.out.now _ _ _ blocks (omega arith)
 
 pub returns : goal.returns
 unfolding whole left
-returns c =
-    let start = c in
-    let a = start.args in
+returns g c =
+    let a = c.args in
     let s = a.s.now in
-    let block : Block a.start = array-block _ _ start.well_formed.0 in
+    let block : Block a.start = array-block _ _ c.well_formed.0 in
     let bytes : Bytes s = record { bytes = λ i. (c.type_inv.s i).fits } in
-    let blocks = blocks-planned a.rounds a.start s block a.opening
+    let blocks = blocks-planned a.rounds a.start s block _
     (rw c.gamma.ensures at c.pass_blocks-blocks.ensures) in
     let q : 128 * whole s ≡ length s → ⊥ = λ e. omega arith in
     let rest = rw (tail_part (128 * whole s) s) at c.pass_leftover.ensures in
-    all_left a.rounds a.start s block bytes a.opening a.out.now _ _ _ blocks _ _ _ q rest.out_after rest.sum_value.0 rest.sum_value.1
+    all_left a.rounds a.start s block bytes _ a.out.now _ _ _ blocks _ _ _ q rest.out_after rest.sum_value.0 rest.sum_value.1

@@ -1,16 +1,11 @@
 -- One block more in each turn. Assumes nothing.
 use mathlib.Core.Bool.{true}
 use native.Mathlib.Omega.{arith}
-use lib.ListN.{length-drop}
-use Rattle.words.proofs.Lists.{tail_part}
 use Rattle.blockplan.proofs.Summing.{summing-none, summing-more, summing-done}
 use Rattle.opp_blocks.proofs.judging.check_blocks.Goals as goal
 
 pub loop-rest-init : goal.loop-rest-init
 loop-rest-init c = summing-none true _ _ _ _ c.zero-sum.ensures
-
-pub loop-rest-smaller : goal.loop-rest-smaller
-loop-rest-smaller c = simp (tail_part, length-drop) (omega arith)
 
 pub loop-rest-preserved : goal.loop-rest-preserved
 loop-rest-preserved c =

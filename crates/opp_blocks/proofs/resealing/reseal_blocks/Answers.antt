@@ -15,7 +15,7 @@ use Rattle.opp_blocks.proofs.resealing.reseal_blocks.Goals as goal
 
 pub loop-i-init : goal.loop-i-init
 unfolding xor_over fold stepping times
-loop-i-init c = record { count-is = refl; written = writing-none; summed = c.zero-sum.ensures; from_at = refl; to_at = refl }
+loop-i-init c = record { written = writing-none; summed = c.zero-sum.ensures; from_at = refl; to_at = refl }
 
 pub loop-i-preserved : goal.loop-i-preserved
 unfolding bytes_at made_at under across block_at
@@ -24,7 +24,6 @@ loop-i-preserved c =
     let a = c.args in
     let s = a.s.now in
     let here = rw (tail_part (128 * at.i) s, at.invariant.from_at, at.invariant.to_at) at c.reseal_block-more.ensures in record {
-      count-is = refl;
       written = writing_more at.invariant.written (length-bytes_at (across _ (stepping _) (stepping _)) s) (omega arith) (omega arith) here.out_after;
       summed = summed _ at.i at.sum _ at.invariant.summed here.value;
       from_at = stepping-on _ at.from _ at.i at.invariant.from_at c.alpha-from_step.ensures;

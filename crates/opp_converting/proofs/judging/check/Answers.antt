@@ -13,10 +13,9 @@ use Rattle.opp_converting.proofs.judging.check.Goals as goal
 pub returns-then-at-n : goal.returns-then-at-n
 unfolding whole
 returns-then-at-n c =
-    let start = c in
-    let a = start.args in
+    let a = c.args in
     let s = a.s.now in
-    let block : Block a.start = array-block _ _ start.well_formed.0 in
+    let block : Block a.start = array-block _ _ c.well_formed.0 in
     let bytes : Bytes s = record { bytes = λ i. (c.type_inv.s i).fits } in
     let blocks = rw c.gamma.ensures at c.check_blocks-blocks.ensures in
     ends-whole a.rounds a.start s block bytes _ _ blocks.0 blocks.1 (omega arith)
@@ -24,10 +23,9 @@ returns-then-at-n c =
 pub returns : goal.returns
 unfolding whole left
 returns c =
-    let start = c in
-    let a = start.args in
+    let a = c.args in
     let s = a.s.now in
-    let block : Block a.start = array-block _ _ start.well_formed.0 in
+    let block : Block a.start = array-block _ _ c.well_formed.0 in
     let bytes : Bytes s = record { bytes = λ i. (c.type_inv.s i).fits } in
     let blocks = rw c.gamma.ensures at c.check_blocks-blocks.ensures in
     let q : 128 * whole s ≡ length s → ⊥ = λ e. c.if-at-n.false (omega arith) in

@@ -1,6 +1,8 @@
 -- One block more in each turn. Assumes nothing.
 use mathlib.Core.Path.{◌≡◌}
-use Prim.Native.Nat.{◌/◌, ◌-◌}
+use mathlib.Core.Bool.{not}
+use lib.Dec.{eqb}
+use Prim.Native.Nat.{◌/◌}
 use lib.ListN.{length}
 use Rattle.words.specs.Sequence.{fold}
 use Rattle.words.specs.Block.{xor_block}
@@ -10,10 +12,7 @@ use Rattle.quads.specs.Quads.{from_run}
 use Rattle.opp_run_blocks.proofs.ones.pass_ones.Given as goal
 
 abbrev pub invariant-loop-i : goal.invariant-loop-i
-invariant-loop-i l =
+invariant-loop-i g l =
     (l.count ≡ length l.s / 128)
-    × (Writing (bytes_at (under l.opening l.rounds (from_run 0 l.run l.n)) l.s) 128 l.count l.initial.out l.out l.i
-    × (l.sum ≡ fold (λ j t. xor_block t (plain_at l.opening (under l.opening l.rounds (from_run 0 l.run l.n)) l.s j)) l.initial.sum l.i))
-
-abbrev pub decreases-loop-i : goal.decreases-loop-i
-decreases-loop-i l = l.count - l.i
+    × (Writing (bytes_at (under (not (eqb g.row.OPENING 0)) l.rounds (from_run 0 l.run l.n)) l.s) 128 l.count l.initial.out l.out l.i
+    × (l.sum ≡ fold (λ j t. xor_block t (plain_at (not (eqb g.row.OPENING 0)) (under (not (eqb g.row.OPENING 0)) l.rounds (from_run 0 l.run l.n)) l.s j)) l.initial.sum l.i))

@@ -10,5 +10,5 @@ pub returns : goal.returns
 unfolding block_at
 returns c =
     let s = c.args.s.now in
-    four_are _ _ c.load-a.ensures (c.load-b.ensures ∙ ap block_of (tail_part 128 s)) (c.load-c.ensures ∙ ap block_of (tail_part 256 s))
-    (c.load-d.ensures ∙ ap block_of (tail_part 384 s))
+    four_are _ _ c.load.ensures (c.load-2.ensures ∙ ap block_of (tail_part 128 s)) (c.load-3.ensures ∙ ap block_of (tail_part 256 s))
+    (c.load-4.ensures ∙ ap block_of (tail_part 384 s))

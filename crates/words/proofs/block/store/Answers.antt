@@ -1,9 +1,9 @@
 -- The loop's invariant: the bytes of the first i words are in, the others are as they were. Assumes nothing.
 use native.Mathlib.Omega.{arith}
 use lib.ListN.{length-drop}
-use Rattle.words.specs.Block.{word_bytes, bytes_of}
+use Rattle.words.specs.Block.{word_bytes}
 use Rattle.words.proofs.Lists.{tail_part}
-use Rattle.words.proofs.Loops.{writing-none, writing_more, writing-done}
+use Rattle.words.proofs.Loops.{writing-none, writing_more}
 use Rattle.words.proofs.Blocks.{length-word_bytes}
 use Rattle.words.proofs.block.store.Goals as goal
 
@@ -18,7 +18,3 @@ unfolding word_bytes
 loop-i-preserved c =
     let at = c in
     writing_more at.loop-i.invariant (length-word_bytes at.args.b) (omega arith) (omega arith) c.store_word.ensures
-
-pub returns : goal.returns
-unfolding bytes_of
-returns c = writing-done c.loop-i.invariant (omega arith)

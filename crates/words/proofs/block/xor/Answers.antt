@@ -1,8 +1,8 @@
 -- The loop's invariant: the first i words are done, the others are those of a. Assumes nothing.
 use mathlib.Core.Path.{refl}
 use native.Mathlib.Omega.{arith}
-use Rattle.words.specs.Block.{xor_at, xor_block}
-use Rattle.words.proofs.Loops.{filling-none, filling-more, filling-done}
+use Rattle.words.specs.Block.{xor_at}
+use Rattle.words.proofs.Loops.{filling-none, filling-more}
 use borrow.Author.Rules.{rules}
 use Rattle.words.proofs.block.xor.Goals as goal
 
@@ -12,7 +12,3 @@ loop-i-init c = filling-none _ (search rules)
 pub loop-i-preserved : goal.loop-i-preserved
 unfolding xor_at
 loop-i-preserved c = filling-more c.loop-i.invariant (omega arith) refl
-
-pub returns : goal.returns
-unfolding xor_block
-returns c = filling-done c.loop-i.invariant (omega arith)

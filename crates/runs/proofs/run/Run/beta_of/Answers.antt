@@ -1,0 +1,10 @@
+-- A beta step on in the plan. Assumes nothing.
+use mathlib.Core.Path.{◌∙◌}
+use Rattle.runs.proofs.Planned.{kind-on}
+use Rattle.runs.proofs.run.Run.beta_of.Goals as goal
+
+pub returns : goal.returns
+returns c =
+    let a = c.args in
+    let run = c.words.ensures in
+    rw run.same at c.beta_of.ensures ∙ kind-on a.self.now run.is_run run.start a.n a.kind c.requires

@@ -1,0 +1,10 @@
+-- Three beta steps on in the plan. Assumes nothing.
+use mathlib.Core.Path.{◌∙◌}
+use Rattle.runs.proofs.Planned.{kind-three}
+use Rattle.runs.proofs.run.Run.beta_thrice_of.Goals as goal
+
+pub returns : goal.returns
+returns c =
+    let a = c.args in
+    let run = c.words.ensures in
+    rw run.same at c.beta_thrice_of.ensures ∙ kind-three a.self.now run.is_run run.start a.n a.kind c.requires

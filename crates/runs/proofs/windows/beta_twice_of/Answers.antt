@@ -1,7 +1,0 @@
--- Two masks, exclusive or. Assumes nothing.
-use mathlib.Core.Path.{ap₂, ◌∙◌}
-use Rattle.words.specs.Block.{xor_block}
-use Rattle.runs.proofs.windows.beta_twice_of.Goals as goal
-
-pub returns : goal.returns
-returns c = c.xor.ensures ∙ ap₂ xor_block c.mask_at.ensures c.mask_at-2.ensures
