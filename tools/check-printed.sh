@@ -27,17 +27,29 @@ done
 
 awk -v definitions="$definitions" -v groups="$groups" -v places="$places" -v lines="$lines" -v page="$page" \
     -v groups4="$groups4" -v lines4="$lines4" '
-# The lines stand in the file one below the other, in a paragraph with a line that begins so. Blanks
-# before a line, and the sign that joins it to a list, do not count.
-function check(file, beginning, wanted,    part, found) {
+# The lines stand in the file one below the other, in a paragraph with a line that begins so; where an item is
+# named, in that item, from the line that begins with its name to the brace that closes it. Blanks before a line,
+# and the sign that joins it to a list, do not count.
+function check(file, beginning, wanted, item,    part, found, inside, at) {
     found = 0
-    while ((getline part < file) > 0)
-        if (index("\n" part, "\n" beginning)) {
-            part = "\n" part "\n"
+    inside = item == ""
+    while ((getline part < file) > 0) {
+        part = "\n" part "\n"
+        if (item != "" && (at = index(part, "\n" item))) {
+            part = substr(part, at)
+            inside = 1
+        }
+        if (!inside) continue
+        if (item != "" && (at = index(part, "\n}"))) {
+            part = substr(part, 1, at)
+            inside = 0
+        }
+        if (index(part, "\n" beginning)) {
             gsub(/\n +/, "\n", part)
             gsub(/\n∷ /, "\n", part)
             if (index(part, wanted "\n")) found = 1
         }
+    }
     close(file)
     if (found) passed++
     else { failed++; print "  failed: " file ": " beginning }
@@ -108,7 +120,7 @@ BEGIN {
         rows = rows row(printed, definition, code, "")
     }
     check(definitions, "g_of q =", defined)
-    check(lines, "    fn g(", coded)
+    check(lines, "    fn g(", coded, "impl Way for Forward {")
     check(page, "| Section 8 |", rows)
 
     print passed + 0 " passed, " failed + 0 " failed"

@@ -26,6 +26,9 @@ vectorising=(-mllvm -inline-threshold=30000 -mllvm -slp-recursion-max-depth=100
 # Whether a tag's four words differ is one test. By itself the compiler makes a branch for each of them where a total
 # is summed up, which tells how much of the tag is right.
 testing=(-mllvm -jump-is-expensive)
+# A short loop takes up to a third longer on some processors where a branch of it lies across a boundary of 32 bytes.
+# By itself the compiler aligns functions to 16, so that the place where a program's linker puts one decides.
+placing=(-mbranches-within-32B-boundaries)
 # Each function says for which processor it is, which -march alone leaves as it is. By itself the compiler
 # keeps the stack aligned to 16 bytes, and with vectors of 32 OPP was a third slower at some places of it.
 # With bundles of more words than a vector has, the compiler shuffles the sum's words in each turn.
@@ -54,7 +57,7 @@ opening='/^define .*@"(sealing::open_from|modes::open|opp::open)"\(/s/ \{$/ alwa
 # compile SED-SCRIPT OBJECT OPTIONS...: the program as the script changes it.
 compile() {
     sed -E "$opening; $1" "$work/program.ll" >"$2.ll"
-    "$bin/clang" "${words[@]}" "${testing[@]}" -x ir "$2.ll" -o "$2" "${@:3}"
+    "$bin/clang" "${words[@]}" "${testing[@]}" "${placing[@]}" -x ir "$2.ll" -o "$2" "${@:3}"
 }
 
 # inside LINES: the script by which the exported functions that are defined on such lines are no longer

@@ -1,4 +1,5 @@
 pub mod Numbers
+mod Links
 pub mod Chains
 pub mod Counts
 pub mod Form

@@ -45,7 +45,7 @@ unfolding broken_or
 stopped fits s m sold left lowest from at w o e =
     let h : w ≡ (Err from, o.reached) = o.rest ∙ e in
     let l : w.1 ≡ o.reached = ap (λ (x : Stop × List ℕ). x.1) h in
-    record { stop = sym (ap (λ (x : Stop × List ℕ). broken_or x.0 sound) h); marks = rw l o.marks; lowest = tt }
+    record { stop = sym (ap (λ (x : Stop × List ℕ). broken_or x.0 sound) h); marks = rw l o.marks; lowest = (lowest, rw l o.least) }
 
 -- the smaller of a misfit and the one lowest is lowest
 pub misfit-more : (fits : ℕ → Bool) (reached : List ℕ) (n k at d : ℕ) → FirstMisfit fits reached n k → at < n → d ≡ cond (not (fits at)) (cond (ltb at k) at k) k → FirstMisfit fits (reached ++ (at ∷ [])) n d

@@ -1,5 +1,5 @@
 -- One bit for each cell, in words of 64: the marks that the code keeps of the cells reached; what functions promise each other. Assumes nothing.
-use Rattle.std.specs.Prelude.{◌≡◌, Bool, true, false, not, List, ℕ, zero, suc, ◌+◌, ◌/◌, ◌%◌, ◌^◌, ◌≤◌, ◌<◌, eqb, get_or, set, Result, Ok, Err, IfOk}
+use Rattle.std.specs.Prelude.{◌≡◌, Bool, true, false, not, List, ℕ, zero, suc, ◌+◌, ◌/◌, ◌%◌, ◌^◌, ◌≤◌, ◌<◌, eqb, get_or, set, Result, Ok, Err, MatchResult}
 use Rattle.cells.specs.Chains.{count}
 use Rattle.cells.specs.declared.Fault.{Fault}
 use Rattle.cells.specs.Faults.{Stop, Finding, sound, broken_or}
@@ -46,8 +46,8 @@ abbrev pub found_by : Result MarkedWalk Fault → Finding
 found_by (Ok seen) = sound
 found_by (Err fault) = Err fault
 
--- what a walk leaves; the lowest misfit where it came to the end of its chain
+-- what a walk leaves; where it is stopped, the lowest misfit is not told
 pub record Walked (fits : ℕ → Bool) (n : ℕ) (r : Result MarkedWalk Fault) (m : List ℕ) (w : Stop × List ℕ) : Type 0 where
   pub stop : found_by r ≡ broken_or w.0 sound
   pub marks : Marks m w.1
-  pub lowest : IfOk r (λ seen. FirstMisfit fits w.1 n seen.lowest)
+  pub lowest : MatchResult r (λ seen. FirstMisfit fits w.1 n seen.lowest) (λ fault. (lowest : ℕ) × FirstMisfit fits w.1 n lowest)

@@ -44,11 +44,9 @@ fn walk_one(s: &[u8], chain: Chain, first: usize, most: usize) -> Option<usize>
     let cells = s.len() / 64;
     let mut left = most;
     let mut at = first;
-    // Kept: a `while` along the links, for the same reason.
-    while at != 0 {
-        if left == 0 || at >= cells {
-            return None;
-        }
+    // Kept: a `while` along the links, for the same reason. The compiler makes one branch of the three tests where they
+    // stand in the condition.
+    while at != 0 && left != 0 && at < cells {
         let link = link_of(s, at);
         if !chain.takes(link.kind) {
             return None;
@@ -56,7 +54,7 @@ fn walk_one(s: &[u8], chain: Chain, first: usize, most: usize) -> Option<usize>
         left -= 1;
         at = link.next;
     }
-    Some(left)
+    if at == 0 { Some(left) } else { None }
 }
 
 // How many cells stand in neither chain, but for cell 0; nothing where a fault was seen.

@@ -1,5 +1,5 @@
 // The walk of a chain.
-ghost use Rattle.std.specs.Prelude.{◌≡◌, Bool, cond, List, ℕ, ◌*◌, ◌≤◌, ltb, length, IfOk};
+ghost use Rattle.std.specs.Prelude.{◌≡◌, Bool, cond, List, ℕ, ◌*◌, ◌≤◌, ltb, length, MatchResult};
 ghost use Rattle.cells.specs.Chains.{count};
 ghost use Rattle.cells.specs.Cells.{cells, kind_of, kind_fits, is_sales};
 ghost use Rattle.cells.specs.Faults.{walk_of};
@@ -28,7 +28,7 @@ pub fn walk(
     seen: MarkedWalk,
 ) -> Result<MarkedWalk, Fault>
     requires { (cells s.now ≤ 64 * length marks.old) × Unreached (cells s.now) marks.old seen.left }
-    ensures { IfOk result (λ found. Unreached (cells s.now) marks.new found.left) × ((fits : ℕ → Bool) (reached : List ℕ) → Marks marks.old reached → FirstMisfit fits reached (cells s.now) seen.lowest → ((c : ℕ) → count c reached ≡ 0 → fits c ≡ kind_fits (is_sales chain) (kind_of s.now c)) → Walked fits (cells s.now) result marks.new (walk_of s.now (cells s.now) reached 0 first)) }
+    ensures { MatchResult result (λ found. Unreached (cells s.now) marks.new found.left) (λ fault. (left : ℕ) × Unreached (cells s.now) marks.new left) × ((fits : ℕ → Bool) (reached : List ℕ) → Marks marks.old reached → FirstMisfit fits reached (cells s.now) seen.lowest → ((c : ℕ) → count c reached ≡ 0 → fits c ≡ kind_fits (is_sales chain) (kind_of s.now c)) → Walked fits (cells s.now) result marks.new (walk_of s.now (cells s.now) reached 0 first)) }
 {
     let cells = s.len() / 64;
     let mut lowest = seen.lowest;

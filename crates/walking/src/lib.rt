@@ -2,7 +2,7 @@
 
 #![tactic(auto)]
 
-mod counts;
+pub mod counts;
 pub mod steps;
 
 ghost use Rattle.std.specs.Prelude.{◌≡◌};
@@ -10,7 +10,7 @@ ghost use Rattle.walking.specs.Walking.{walk_checks, jump_checks, walk_call, jum
 
 use answers::{Answer, Check, Ground, Refusal, room};
 use back_steps::back;
-use counts::{all_in_range, take_net};
+use counts::{all_in_range, repeat_net};
 use masks::steps as forward;
 use steps::{first_bad, take_all};
 use words::block::{load, store};
@@ -65,9 +65,9 @@ pub fn jump(start: &[u8], alpha: i32, beta: i32, gamma: i32, out: &mut [u8]) -> 
     ensures { (result, out.new) ≡ jump_call start.now alpha beta gamma out.old }
 {
     check_jump(start.len(), alpha, beta, gamma, out.len())?;
-    let one = take_net(load(start), forward::alpha, back::back_alpha, alpha);
-    let two = take_net(one, forward::beta, back::back_beta, beta);
-    let three = take_net(two, forward::gamma, back::back_gamma, gamma);
+    let one = repeat_net(load(start), forward::alpha, back::back_alpha, alpha);
+    let two = repeat_net(one, forward::beta, back::back_beta, beta);
+    let three = repeat_net(two, forward::gamma, back::back_gamma, gamma);
     store(three, out);
     Ok(128)
 }

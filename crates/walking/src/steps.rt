@@ -97,7 +97,7 @@ pub fn take_all(start: [u64; 16], list: &[u8]) -> [u64; 16]
 
 // One step, n times.
 #[tactic(auto, unfolding(words::specs::Sequence::times))]
-pub fn take_many<F: Fn([u64; 16]) -> [u64; 16]>(start: [u64; 16], step: F, n: u32) -> [u64; 16]
+pub fn repeat<F: Fn([u64; 16]) -> [u64; 16]>(start: [u64; 16], step: F, n: u32) -> [u64; 16]
     requires { F.IsAlwaysCallable step }
     ensures { (h : List ℕ → List ℕ) → DoesAs (F.post step) h → result ≡ times h n start }
 {
@@ -107,6 +107,16 @@ pub fn take_many<F: Fn([u64; 16]) -> [u64; 16]>(start: [u64; 16], step: F, n: u3
         b = next;
     }
     b
+}
+
+// The step of that number, n times: for callers who have a step's number, and no function for it.
+pub fn take_many(start: [u64; 16], kind: u8, n: u32) -> [u64; 16]
+    ensures { result ≡ times (step kind) n start }
+{
+    let one = |b|
+        ensures { result ≡ step kind b }
+    { take_one(b, kind) };
+    repeat(start, one, n)
 }
 
 // The place of the first byte that is no step, or the list's length.

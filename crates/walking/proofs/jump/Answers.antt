@@ -28,8 +28,8 @@ pub returns : goal.returns
 unfolding jump_call jumped
 returns c =
     let fits = c.ranges in
-    let one = c.take_net-one.ensures alpha back_alpha (λ b r e. e.1) (λ b r e. e.1.0) in
-    let two = c.take_net-two.ensures beta back_beta (λ b r e. e.1) (λ b r e. e.1.0) in
-    let three = c.take_net-three.ensures gamma back_gamma (λ b r e. e.1) (λ b r e. e.1.0) in
+    let one = c.repeat_net-one.ensures alpha back_alpha (λ b r e. e.1) (λ b r e. e.1.0) in
+    let two = c.repeat_net-two.ensures beta back_beta (λ b r e. e.1) (λ b r e. e.1.0) in
+    let three = c.repeat_net-three.ensures gamma back_gamma (λ b r e. e.1) (λ b r e. e.1.0) in
     rw (c.store.ensures, three, two, one, c.load.ensures, to_z-of_z fits.alpha, to_z-of_z fits.beta, to_z-of_z fits.gamma)
     (allowed _ _ (rw (to_z-of_z fits.alpha, to_z-of_z fits.beta, to_z-of_z fits.gamma) at c.check_jump.ensures) c.in_ok-check_jump.was)

@@ -50,7 +50,7 @@ pub returns-then-at-cells : goal.returns-then-at-cells
 unfolding cells
 returns-then-at-cells c =
     let l = c.loop-at in (
-      tt,
+      (l.left, l.invariant.0.1),
       λ fits reached h k f. let o = l.invariant.1 fits reached h k f in stopped fits _ _ _ l.left l.lowest l.from l.at _ o (elim c.then-at-cells.branch [
         | then-at-cells-via-then-at-cells w ↦ walk-past _ _ _ l.from l.at c.loop-at-test.true (omega arith)
         | then-at-cells-via-else-at-cells+then-is_marked w ↦ walk-twice _ _ _ l.from l.at c.loop-at-test.true (omega arith) (λ e. bit-some _ _ (sym w.is_marked.ensures ∙ w.if-is_marked.true) (o.marks.each l.at ∙ e))
